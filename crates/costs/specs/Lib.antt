@@ -1,0 +1,3 @@
+pub mod Asking
+pub mod Constant
+pub mod Making
