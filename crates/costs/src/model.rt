@@ -1,6 +1,6 @@
 ghost use mathlib.Core.Path.{_≡_};
 ghost use Prim.Native.Nat.{ℕ};
-ghost use Rattle.theory.specs.Lots.{LawfulCosts};
+ghost use Rattle.theory.specs.Recursion.{LawfulCosts};
 ghost use Rattle.costs.specs.Asking.{setupTold, priceTold};
 
 // What a cost model means: the setup charge `K j` of each period, and the price `V j i` of a unit made in j for use in i.

@@ -4,7 +4,7 @@ use mathlib.Core.List.{List, [], _∷_}
 use mathlib.Core.Logic.{_⊎_}
 use Prim.Native.Nat.{ℕ, zero, suc, _+_, _-_, _*_, _≤_, _<_}
 use lib.ListN.{length, getD}
-use Rattle.theory.specs.Lots.{Case, Lawful, over, least, last, lot-cost}
+use Rattle.theory.specs.Recursion.{Case, Lawful, over, least, last, lot-cost}
 use Rattle.planner.specs.declared.row.Row.{Row}
 
 -- the rows of a window: the row of its base, a row for each period after the base, and what each of these periods would cost as the last setup
