@@ -1,1 +1,2 @@
-pub mod row;
+// The planner: it reads a forecast and says which lots to make.
+mod rows;

@@ -1,0 +1,5 @@
+pub mod Choosing
+pub mod Steps
+pub mod Growth
+pub mod Soundness
+pub mod Growing
