@@ -3,3 +3,4 @@ pub mod Steps
 pub mod Growth
 pub mod Soundness
 pub mod Growing
+pub mod Backward

@@ -94,7 +94,7 @@ abbrev pub dearest : ℕ
 dearest = 1001000000000
 
 -- a sum over n periods of at most m each
-over-bound : (f : ℕ → ℕ) (a m n b : ℕ) → b < a + n → ((i : ℕ) → a ≤ i → i ≤ b → f i ≤ m) → over f a b ≤ n * m
+pub over-bound : (f : ℕ → ℕ) (a m n b : ℕ) → b < a + n → ((i : ℕ) → a ≤ i → i ≤ b → f i ≤ m) → over f a b ≤ n * m
 unfolding over
 over-bound f a m zero b l h = omega (arith, over-none f a b (omega arith))
 over-bound f a m (suc n) zero l h = omega arith

@@ -1,2 +1,3 @@
 pub mod Describing
 pub mod Windows
+pub mod Lots

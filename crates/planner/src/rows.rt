@@ -6,6 +6,7 @@ ghost use Rattle.std.specs.Of.Vec.{vec-len, vec-cap, vec-items};
 ghost use Rattle.planner.specs.Describing.{Sound, windowOf};
 mod growth;
 mod options;
+mod plans;
 pub mod row;
 
 use crate::rows::row::Row;

@@ -8,3 +8,10 @@ pub struct Row {
     // The last setup of the plan with that cost, 0 where nothing is made.
     pub last: u32,
 }
+
+// The periods that one lot serves; it is made in the first of them.
+#[derive(Clone, Copy, PartialEq, Eq)]
+pub struct Span {
+    pub from: u32,
+    pub through: u32,
+}
