@@ -11,7 +11,8 @@ use Rattle.std.specs.declared.option.Option.the-variants.{Some, None}
 use Rattle.std.proofs.shelf.Tests.{cases-lt, cases-order, le-leb, lt-leb}
 use Rattle.theory.specs.Recursion.{Case, caseOf, Lot}
 use Rattle.theory.specs.Regeneration.{Alike, proves, end-of}
-use Rattle.theory.specs.Series.{Handed, Ending, Entry, periods-read, taken, lots, up-to, Ran}
+use Rattle.theory.specs.Endings.{Ending}
+use Rattle.theory.specs.Series.{Handed, Entry, periods-read, taken, lots, up-to, Ran}
 use Rattle.theory.specs.Runs.{Front, Alike-as-read, Agree-past, Agrees-with-others, Two-series-agree}
 use Rattle.theory.proofs.Laws.{alike-back}
 use Rattle.theory.proofs.Proving.{none-is-not-some, proves-alike}

@@ -9,7 +9,8 @@ use Rattle.std.proofs.shelf.Lists.{map-push}
 use Rattle.theory.specs.Recursion.{caseOf, LawfulCosts}
 use Rattle.theory.specs.Regeneration.{end-of, proves}
 use Rattle.theory.specs.Horizons.{Settled}
-use Rattle.theory.specs.Series.{Ending, Handed, Entry, periods-read, taken, lots, base, Ran}
+use Rattle.theory.specs.Endings.{Ending}
+use Rattle.theory.specs.Series.{Handed, Entry, periods-read, taken, lots, base, Ran}
 use Rattle.theory.specs.Runs.{In-order, Within-limits, Taken-lots-are-settled}
 use Rattle.theory.proofs.Plans.{end-append}
 use Rattle.theory.proofs.Proving.{proves-sound, proved-ends}

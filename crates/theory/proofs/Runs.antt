@@ -9,7 +9,8 @@ use Rattle.theory.specs.Splittings.{made-by, total, cost, Cheapest, Begins-wit
 use Rattle.theory.specs.Regeneration.{Alike, Adjoins, after, end-of}
 use Rattle.theory.specs.Horizons.{Settled}
 use Rattle.theory.specs.Netting.{Receipt, Rising, nets, net, Greatest-excess}
-use Rattle.theory.specs.Series.{Ending, Entry, periods-read, taken, lots, base, Ran}
+use Rattle.theory.specs.Endings.{Ending}
+use Rattle.theory.specs.Series.{Entry, periods-read, taken, lots, base, Ran}
 use Rattle.theory.specs.Runs.{amounts, closing, all-lots, Freezing-is-right, Emptied, Lots-hold-the-excess, Whole-run, Freezing-is-always-right, Series-obey-the-law}
 use Rattle.theory.proofs.Sums.{over-none, over-split, over-same}
 use Rattle.theory.proofs.Laws.{last-le, alike-self}

@@ -14,7 +14,8 @@ use Rattle.std.proofs.shelf.Lists.{append-nil, append-assoc, map-push}
 use Rattle.std.proofs.shelf.Tests.{cases-bool, leb-true, leb-false, cond-true, cond-false}
 use Rattle.theory.specs.Recursion.{Case, caseOf, Lot}
 use Rattle.theory.specs.Regeneration.{end-of, proves}
-use Rattle.theory.specs.Series.{Call, Read, Take, Ending, Finished, Faulty, Handed, Refusal, None-proved, Lot-waits, Window-full, Limit-reached, Answer, Given, Accepted, Refused, Entry, read-by, periods-read, given-by, taken, lots, base, due-take, told, due-read, due-at, due-answer, Ran, go-on}
+use Rattle.theory.specs.Endings.{Ending, Finished, Faulty}
+use Rattle.theory.specs.Series.{Call, Read, Take, Handed, Refusal, None-proved, Lot-waits, Window-full, Limit-reached, Answer, Given, Accepted, Refused, Entry, read-by, periods-read, given-by, taken, lots, base, due-take, told, due-read, due-at, due-answer, Ran, go-on}
 use Rattle.theory.specs.Runs.{Calls-have-one-record}
 
 -- what one more entry adds

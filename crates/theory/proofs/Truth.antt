@@ -12,7 +12,8 @@ use Rattle.std.specs.declared.option.Option.the-variants.{Some, None}
 use Rattle.std.proofs.shelf.Tests.{cond-both, leb-true, leb-false, true≢false, false≢true}
 use Rattle.theory.specs.Recursion.{Case, caseOf, Lot}
 use Rattle.theory.specs.Regeneration.{proves, Proved}
-use Rattle.theory.specs.Series.{Call, Read, Take, Ending, Finished, Faulty, Answer, Accepted, Refused, Window-full, Limit-reached, Entry, periods-read, base, due-take, told, due-read, due-at, Ran}
+use Rattle.theory.specs.Endings.{Ending, Finished, Faulty}
+use Rattle.theory.specs.Series.{Call, Read, Take, Answer, Accepted, Refused, Window-full, Limit-reached, Entry, periods-read, base, due-take, told, due-read, due-at, Ran}
 use Rattle.theory.specs.Runs.{Unproved, Some-proved, Take-tells, Refusal-tells, Read-tells, Tells, Within-limits, Answers-tell-the-truth}
 use Rattle.theory.proofs.Proving.{none-is-not-some, proves-sound, proves-complete}
 use Rattle.theory.proofs.Series.{ran-front}

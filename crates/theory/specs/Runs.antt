@@ -10,7 +10,8 @@ use Rattle.theory.specs.Splittings.{Serves, cost, total, Cheapest, Begins-with
 use Rattle.theory.specs.Regeneration.{Proved, after, end-of}
 use Rattle.theory.specs.Horizons.{Settled}
 use Rattle.theory.specs.Netting.{Receipt, Rising, nets, Greatest-excess}
-use Rattle.theory.specs.Series.{Call, Read, Take, Ending, Finished, Faulty, Handed, Refusal, None-proved, Lot-waits, Window-full, Limit-reached, Feed-ended, Feed-faulty, Answer, Given, Accepted, Refused, Entry, periods-read, taken, lots, base, up-to, Ran, go-on}
+use Rattle.theory.specs.Endings.{Ending, Finished, Faulty}
+use Rattle.theory.specs.Series.{Call, Read, Take, Handed, Refusal, None-proved, Lot-waits, Window-full, Limit-reached, Feed-ended, Feed-faulty, Answer, Given, Accepted, Refused, Entry, periods-read, taken, lots, base, up-to, Ran, go-on}
 
 -- No lot is proved after t periods with the base b.
 abbrev pub Unproved : Case → ℕ → ℕ → Type 0
