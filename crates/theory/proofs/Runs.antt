@@ -39,7 +39,7 @@ amounts-adjoin : (c : Case) (b : ℕ) (ys : List Lot) → Own c ys → Adjoins b
 unfolding amounts end-of lot
 amounts-adjoin c b [] o a = omega arith
 amounts-adjoin c b (y ∷ ys) o a =
-    let q : y .amount ≡ over (c .demand) (y .from) (y .through) = ap (λ (v : Lot). v .amount) (o .0) in
+    let q : y .amount ≡ over (c .demand) (y .from) (y .through) = ap (λ (v : Lot). v .amount) (o .0 .is-lot) in
     let f : over (c .demand) (y .from) (y .through) ≡ over (c .demand) (suc b) (y .through) = ap (λ k. over (c .demand) k (y .through)) (a .0) in
     omega (
       arith,

@@ -2,10 +2,10 @@
 use mathlib.Core.Path.{_≡_}
 use mathlib.Core.List.{List, [], _∷_, _++_}
 use mathlib.Core.Logic.{_⊎_}
-use Prim.Native.Nat.{ℕ, suc, _+_, _≤_, _<_}
+use Prim.Native.Nat.{ℕ, suc, _+_, _-_, _≤_, _<_}
 use lib.ListN.{length, take}
 use Rattle.std.specs.declared.option.Option.the-variants.{Some, None}
-use Rattle.theory.specs.Recursion.{Case, caseOf, LawfulCosts, Lawful, Lot, lot, lot-cost, least, last, plan}
+use Rattle.theory.specs.Recursion.{Case, caseOf, LawfulCosts, Lawful, Lot, over, option, lot, least, last, plan}
 use Rattle.theory.specs.Regeneration.{Alike, next, after, end-of, proves, Proved}
 
 -- Whatever demands cs follow the first t, every plan from t on begins with the plan of a horizon of the regeneration set of t.
@@ -19,11 +19,23 @@ Later-plans-pass-through-the-set =
 abbrev pub Test-decides-proved : Type 0
 Test-decides-proved = (c : Case) (b t : ℕ) (y : Lot) → (proves c b t ≡ Some y → Proved c b t y) × (Proved c b t y → proves c b t ≡ Some y)
 
--- A proved lot is the case's own lot of its periods; it begins after the base and ends before its evidence.
+-- A lot is the recursion's own: made in the last setup of its through period for all demand from there on, at what G grows by.
+pub record Own-lot (c : Case) (y : Lot) : Type 0 where
+  pub is-lot : y ≡ lot c (y .from) (y .through)
+  pub set-up : last c (y .through) ≡ y .from
+  pub growth : least c (y .through) ≡ least c (y .from - 1) + y .costs
+
+-- The next lot of a plan begins after b, ends with the plan or sooner, and is the recursion's own.
+abbrev pub Next-lot-is-the-recursion's : Type 0
+Next-lot-is-the-recursion's =
+    (c : Case) (b n : ℕ) (y : Lot) → next b (plan c n) ≡ Some y →
+    (b < y .from) × (y .from ≤ y .through) × (y .through ≤ n) × Own-lot c y
+
+-- So does a proved lot, and it ends before its evidence.
 abbrev pub Proved-lot-ends-before-its-evidence : Type 0
 Proved-lot-ends-before-its-evidence =
     (c : Case) (b t : ℕ) (y : Lot) → Proved c b t y →
-    (b < y .from) × (y .from ≤ y .through) × (y .through < t) × (y ≡ lot c (y .from) (y .through))
+    (b < y .from) × (y .from ≤ y .through) × (y .through < t) × Own-lot c y
 
 -- A plan's next lot is that of the plan before its last setup, or else the lot from there if that is made after b.
 abbrev pub Next-lot-follows-the-setups : Type 0
@@ -64,10 +76,20 @@ abbrev pub Options-up-to-the-base-never-win : Type 0
 Options-up-to-the-base-never-win =
     (c e : Case) (t : ℕ) (ys : List Lot) → Settled c t ys → Lawful e → Alike c e t → (m : ℕ) → last c t ≤ suc m → Ahead-of (end-of 0 ys) e m
 
--- Where the last setup is after b, the options after b alone tell it and the least cost.
+-- Of the setups after b for period t, j costs least, and every later one more.
+pub record Best-after (b : ℕ) (c : Case) (t j : ℕ) : Type 0 where
+  pub past : b < j
+  pub within : j ≤ t
+  pub at-most : (i : ℕ) → b < i → i ≤ t → option c (least c) t j ≤ option c (least c) t i
+  pub later-dearer : (i : ℕ) → j < i → i ≤ t → option c (least c) t j < option c (least c) t i
+
+-- Where the last setup is after b, the setups after b alone tell it and the least cost.
 abbrev pub Window-tells-the-last-setup : Type 0
 Window-tells-the-last-setup =
-    (c : Case) (b t j : ℕ) → b < last c t → b ≤ j → j < t →
-    ((i : ℕ) → b ≤ i → i < t → least c j + lot-cost c (suc j) t ≤ least c i + lot-cost c (suc i) t) →
-    ((i : ℕ) → j < i → i < t → least c j + lot-cost c (suc j) t < least c i + lot-cost c (suc i) t) →
-    (last c t ≡ suc j) × (least c t ≡ least c j + lot-cost c (suc j) t)
+    (c : Case) (b t j : ℕ) → b < last c t → Best-after b c t j → (last c t ≡ j) × (least c t ≡ option c (least c) t j)
+
+-- With lots settled after t periods, the setups after their end alone give the next period's last setup and least cost, once anything was asked.
+abbrev pub Window-gives-the-next-row : Type 0
+Window-gives-the-next-row =
+    (c : Case) → Lawful c → (t : ℕ) (ys : List Lot) → Settled c t ys → 1 ≤ over (c .demand) 1 (suc t) →
+    (j : ℕ) → Best-after (end-of 0 ys) c (suc t) j → (last c (suc t) ≡ j) × (least c (suc t) ≡ option c (least c) (suc t) j)
