@@ -1,19 +1,16 @@
 -- Two series that are alike hand out alike lots: each lot is taken as soon as it is proved, and that rests on what is alike.
 use mathlib.Core.Path.{_≡_, refl, ap, sym, _∙_, subst}
-use mathlib.Core.Bool.{Bool, true, false, cond}
 use mathlib.Core.List.{List, [], _∷_, _++_}
-use mathlib.Core.Logic.{_⊎_, inl, inr}
-use Prim.Native.Nat.{ℕ, zero, suc, _+_, _-_, _≤_, _<_}
+use mathlib.Core.Logic.{inl, inr}
+use Prim.Native.Nat.{ℕ, suc, _≤_, _<_}
 use native.Mathlib.Omega.{arith}
-use lib.Dec.{leb}
-use lib.ListN.{length}
 use Rattle.std.specs.declared.option.Option.the-variants.{Some, None}
 use Rattle.std.proofs.shelf.Tests.{cases-lt, cases-order, le-leb, lt-leb}
 use Rattle.theory.specs.Recursion.{Case, caseOf, Lot}
 use Rattle.theory.specs.Regeneration.{Alike, proves, end-of}
 use Rattle.theory.specs.Endings.{Ending}
 use Rattle.theory.specs.Series.{Handed, Entry, periods-read, taken, lots, up-to, Ran}
-use Rattle.theory.specs.Runs.{Front, Alike-as-read, Agree-past, Agrees-with-others, Two-series-agree}
+use Rattle.theory.specs.Runs.{Agree-past, Two-series-agree}
 use Rattle.theory.proofs.Laws.{alike-back}
 use Rattle.theory.proofs.Proving.{none-is-not-some, proves-alike}
 use Rattle.theory.proofs.Series.{series-ind}

@@ -1,13 +1,12 @@
 -- What every series keeps: its limits, its lots in order, and that they are settled.
-use mathlib.Core.Path.{_≡_, refl, ap, sym, _∙_, subst}
+use mathlib.Core.Path.{_≡_, ap, sym, _∙_, subst}
 use mathlib.Core.List.{List, [], _∷_, _++_}
-use Prim.Native.Nat.{ℕ, zero, suc, _+_, _≤_, _<_}
+use Prim.Native.Nat.{ℕ, suc, _≤_, _<_}
 use native.Mathlib.Omega.{arith}
 use lib.ListN.{length}
-use Rattle.std.specs.declared.option.Option.the-variants.{Some, None}
 use Rattle.std.proofs.shelf.Lists.{map-push}
 use Rattle.theory.specs.Recursion.{caseOf, LawfulCosts}
-use Rattle.theory.specs.Regeneration.{end-of, proves}
+use Rattle.theory.specs.Regeneration.{end-of}
 use Rattle.theory.specs.Horizons.{Settled}
 use Rattle.theory.specs.Endings.{Ending}
 use Rattle.theory.specs.Series.{Handed, Entry, periods-read, taken, lots, base, Ran}

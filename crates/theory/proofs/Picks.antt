@@ -1,10 +1,8 @@
 -- The largest place at which a function is least.
 use mathlib.Core.Path.{_≡_, refl, ap, sym, _∙_}
-use mathlib.Core.Bool.{cond}
 use mathlib.Core.Logic.{_⊎_, inl, inr}
 use Prim.Native.Nat.{ℕ, zero, suc, _≤_, _<_}
 use native.Mathlib.Omega.{arith}
-use lib.Dec.{leb}
 use Rattle.std.proofs.shelf.Tests.{le-leb, lt-leb, cases-lt}
 use Rattle.theory.specs.Recursion.{pick}
 

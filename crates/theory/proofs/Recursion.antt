@@ -1,12 +1,11 @@
 -- The recursion obeys its characteristic laws, and nothing else does.
-use mathlib.Core.Path.{_≡_, refl, ap, sym, _∙_, subst}
-use mathlib.Core.Logic.{_⊎_, inl, inr}
+use mathlib.Core.Path.{_≡_, refl, sym, subst}
+use mathlib.Core.Logic.{inl, inr}
 use Prim.Native.Nat.{ℕ, zero, suc, _+_, _≤_, _<_}
 use native.Mathlib.Omega.{arith}
 use Rattle.std.proofs.shelf.Tests.{cases-order, cases-lt}
-use Rattle.theory.specs.Recursion.{Case, over, option, lot-cost, least, last}
+use Rattle.theory.specs.Recursion.{Case, option, lot-cost, least, last}
 use Rattle.theory.specs.Optimality.{Offered, Recursion-laws, Recursion-obeys-its-laws, Laws-fix-the-recursion}
-use Rattle.theory.proofs.Sums.{over-none}
 use Rattle.theory.proofs.Laws.{last-le, least-le, least-idle, least-option, last-largest, idle-of-last, alike-self, option-same}
 
 offered-last : (c : Case) (t : ℕ) → Offered c t (last c t)

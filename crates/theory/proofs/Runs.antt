@@ -1,20 +1,19 @@
 -- The law of whole runs, from what every series keeps.
-use mathlib.Core.Path.{_≡_, refl, ap, sym, _∙_, subst}
+use mathlib.Core.Path.{_≡_, ap, sym, _∙_, subst}
 use mathlib.Core.List.{List, [], _∷_, _++_}
-use Prim.Native.Nat.{ℕ, zero, suc, _+_, _-_, _≤_, _<_}
+use Prim.Native.Nat.{ℕ, suc, _+_, _-_, _≤_}
 use native.Mathlib.Omega.{arith}
 use lib.ListN.{length, take, getD}
-use Rattle.theory.specs.Recursion.{Case, caseOf, LawfulCosts, Lawful, Lot, over, last, lot, plan}
-use Rattle.theory.specs.Splittings.{made-by, total, cost, Cheapest, Begins-with}
-use Rattle.theory.specs.Regeneration.{Alike, Adjoins, after, end-of}
-use Rattle.theory.specs.Horizons.{Settled}
-use Rattle.theory.specs.Netting.{Receipt, Rising, nets, net, Greatest-excess}
+use Rattle.theory.specs.Recursion.{Case, caseOf, LawfulCosts, Lot, over, lot, plan}
+use Rattle.theory.specs.Splittings.{made-by, total}
+use Rattle.theory.specs.Regeneration.{Adjoins, end-of, Filled}
+use Rattle.theory.specs.Netting.{net, Greatest-excess}
 use Rattle.theory.specs.Endings.{Ending}
-use Rattle.theory.specs.Series.{Entry, periods-read, taken, lots, base, Ran}
-use Rattle.theory.specs.Runs.{amounts, closing, all-lots, Freezing-is-right, Emptied, Lots-hold-the-excess, Whole-run, Freezing-is-always-right, Series-obey-the-law}
+use Rattle.theory.specs.Series.{Entry, periods-read, taken, lots, Ran}
+use Rattle.theory.specs.Runs.{amounts, all-lots, Freezing-is-right, Emptied, Lots-hold-the-excess, Whole-run, Freezing-is-always-right, Series-obey-the-law}
 use Rattle.theory.proofs.Sums.{over-none, over-split, over-same}
 use Rattle.theory.proofs.Laws.{last-le, alike-self}
-use Rattle.theory.proofs.Plans.{plan-adjoins, plan-total}
+use Rattle.theory.proofs.Plans.{plan-adjoins, plan-total, plan-filled}
 use Rattle.theory.proofs.Attained.{attained, plan-cheapest}
 use Rattle.theory.proofs.Continued.{alike-goes-on}
 use Rattle.theory.proofs.Proving.{Own, plan-own}
@@ -88,6 +87,7 @@ module _ {F : Type 0} (K : ℕ → ℕ) (V : ℕ → ℕ → ℕ) (ds : List ℕ
         x = made-by c (plan c t);
         cheapest = plan-cheapest c w t;
         costs = ap total (sym is-plan) ∙ (plan-total c t ∙ sym (attained c w t .1));
+        filled = subst Filled is-plan (plan-filled c w t);
       }
 
   pub holds-the-excess : Lots-hold-the-excess K V ds ending es

@@ -1,9 +1,9 @@
 -- Series of calls: how one grows, and the one induction that serves all that a series keeps.
 use mathlib.Core.Path.{_≡_, refl, ap, sym, _∙_, subst}
-use mathlib.Core.Bool.{Bool, true, false, cond}
+use mathlib.Core.Bool.{Bool}
 use mathlib.Core.List.{List, [], _∷_, _++_, map}
-use mathlib.Core.Logic.{_⊎_, inl, inr}
-use Prim.Native.Nat.{ℕ, zero, suc, _+_, _-_, _≤_, _<_}
+use mathlib.Core.Logic.{inl, inr}
+use Prim.Native.Nat.{ℕ, suc, _+_, _-_, _<_}
 use native.Mathlib.Omega.{arith}
 use lib.Dec.{leb}
 use lib.ListN.{length}
@@ -11,11 +11,11 @@ use Rattle.std.specs.Options.{isSome}
 use Rattle.std.specs.declared.option.Option.{Option}
 use Rattle.std.specs.declared.option.Option.the-variants.{Some, None}
 use Rattle.std.proofs.shelf.Lists.{append-nil, append-assoc, map-push}
-use Rattle.std.proofs.shelf.Tests.{cases-bool, leb-true, leb-false, cond-true, cond-false}
+use Rattle.std.proofs.shelf.Tests.{cases-bool, leb-false, cond-true, cond-false}
 use Rattle.theory.specs.Recursion.{Case, caseOf, Lot}
 use Rattle.theory.specs.Regeneration.{end-of, proves}
-use Rattle.theory.specs.Endings.{Ending, Finished, Faulty}
-use Rattle.theory.specs.Series.{Call, Read, Take, Handed, Refusal, None-proved, Lot-waits, Window-full, Limit-reached, Answer, Given, Accepted, Refused, Entry, read-by, periods-read, given-by, taken, lots, base, due-take, told, due-read, due-at, due-answer, Ran, go-on}
+use Rattle.theory.specs.Endings.{Ending}
+use Rattle.theory.specs.Series.{window-size, period-limit, Call, Read, Take, Handed, Refusal, None-proved, Lot-waits, Window-full, Limit-reached, Answer, Given, Accepted, Refused, Entry, read-by, periods-read, given-by, taken, lots, due-take, told, due-read, due-at, due-answer, Ran, go-on}
 use Rattle.theory.specs.Runs.{Calls-have-one-record}
 
 -- what one more entry adds
@@ -42,7 +42,7 @@ taken-push es e = taken-append es (e ∷ []) ∙ ap (λ (hs : List Handed). take
 -- what an answer due says, with t periods read and the lots hs taken
 pub data Moves {F : Type 0} (c : Case) (n t : ℕ) (hs : List Handed) (a : Answer F) : Type 0 where
   took : (y : Lot) → proves c (end-of 0 (lots hs)) t ≡ Some y → a ≡ Given (record { lot = y; evidence = t }) → Moves c n t hs a
-  went-on : (proved : Bool) → proves c (end-of 0 (lots hs)) t ≡ None → t < end-of 0 (lots hs) + 256 → t < 10000 → t < n → a ≡ Accepted proved → Moves c n t hs a
+  went-on : (proved : Bool) → proves c (end-of 0 (lots hs)) t ≡ None → t < end-of 0 (lots hs) + window-size → t < period-limit → t < n → a ≡ Accepted proved → Moves c n t hs a
   stayed : (r : Refusal F) → a ≡ Refused r → Moves c n t hs a
 
 module _ {F : Type 0} (c : Case) (n : ℕ) (ending : Ending F) (t : ℕ) (hs : List Handed) (a : Answer F) where
@@ -56,20 +56,20 @@ module _ {F : Type 0} (c : Case) (n : ℕ) (ending : Ending F) (t : ℕ) (hs : L
   read-moves (Some y) p e q = stayed Lot-waits q
   read-moves None p e q =
       let b : ℕ = end-of 0 (lots hs) in
-      elim (cases-bool (leb 256 (t - b))) [
-        | inl f ↦ stayed Window-full (q ∙ cond-true (leb 256 (t - b)) _ _ f)
+      elim (cases-bool (leb window-size (t - b))) [
+        | inl f ↦ stayed Window-full (q ∙ cond-true (leb window-size (t - b)) _ _ f)
         | inr f ↦
-            elim (cases-bool (leb 10000 t)) [
-              | inl g ↦ stayed Limit-reached (q ∙ (cond-false (leb 256 (t - b)) _ _ f ∙ cond-true (leb 10000 t) _ _ g))
+            elim (cases-bool (leb period-limit t)) [
+              | inl g ↦ stayed Limit-reached (q ∙ (cond-false (leb window-size (t - b)) _ _ f ∙ cond-true (leb period-limit t) _ _ g))
               | inr g ↦
                   elim (cases-bool (leb n t)) [
                     | inl h ↦
                         stayed (told ending)
-                        (q ∙ (cond-false (leb 256 (t - b)) _ _ f ∙ (cond-false (leb 10000 t) _ _ g ∙ cond-true (leb n t) _ _ h)))
+                        (q ∙ (cond-false (leb window-size (t - b)) _ _ f ∙ (cond-false (leb period-limit t) _ _ g ∙ cond-true (leb n t) _ _ h)))
                     | inr h ↦
-                        let room : t - b < 256 = leb-false 256 (t - b) f in
-                        went-on (isSome p) e (omega arith) (leb-false 10000 t g) (leb-false n t h)
-                        (q ∙ (cond-false (leb 256 (t - b)) _ _ f ∙ (cond-false (leb 10000 t) _ _ g ∙ cond-false (leb n t) _ _ h)))
+                        let room : t - b < window-size = leb-false window-size (t - b) f in
+                        went-on (isSome p) e (omega arith) (leb-false period-limit t g) (leb-false n t h)
+                        (q ∙ (cond-false (leb window-size (t - b)) _ _ f ∙ (cond-false (leb period-limit t) _ _ g ∙ cond-false (leb n t) _ _ h)))
                   ]
             ]
       ]
@@ -126,7 +126,7 @@ module _ {F : Type 0} (K : ℕ → ℕ) (V : ℕ → ℕ → ℕ) (ds : List ℕ
 
   module _ (P : ℕ → List Handed → Type 0)
       (read : (t : ℕ) (hs : List Handed) → P t hs → proves (caseOf K V ds) (end-of 0 (lots hs)) t ≡ None →
-      t < end-of 0 (lots hs) + 256 → t < 10000 → t < length ds → P (suc t) hs)
+      t < end-of 0 (lots hs) + window-size → t < period-limit → t < length ds → P (suc t) hs)
       (take : (t : ℕ) (hs : List Handed) (y : Lot) → P t hs → proves (caseOf K V ds) (end-of 0 (lots hs)) t ≡ Some y →
       P t (hs ++ (record { lot = y; evidence = t } ∷ []))) where
     keeps-entry : (es : List (Entry F)) (e : Entry F) → P (periods-read es) (taken es) → e .answer ≡ due-answer K V ds ending es (e .call) →

@@ -1,8 +1,8 @@
 -- Each answer that is due says what is so.
-use mathlib.Core.Path.{_≡_, refl, ap, sym, _∙_, subst}
-use mathlib.Core.Bool.{Bool, true, false, cond}
-use mathlib.Core.List.{List, [], _∷_, _++_}
-use Prim.Native.Nat.{ℕ, suc, _+_, _-_, _≤_, _<_}
+use mathlib.Core.Path.{_≡_, refl, sym, _∙_, subst}
+use mathlib.Core.Bool.{true, false}
+use mathlib.Core.List.{List, _∷_}
+use Prim.Native.Nat.{ℕ, suc, _+_, _-_, _<_}
 use native.Mathlib.Omega.{arith}
 use lib.Dec.{leb}
 use lib.ListN.{length}
@@ -11,9 +11,9 @@ use Rattle.std.specs.declared.option.Option.{Option}
 use Rattle.std.specs.declared.option.Option.the-variants.{Some, None}
 use Rattle.std.proofs.shelf.Tests.{cond-both, leb-true, leb-false, true≢false, false≢true}
 use Rattle.theory.specs.Recursion.{Case, caseOf, Lot}
-use Rattle.theory.specs.Regeneration.{proves, Proved}
+use Rattle.theory.specs.Regeneration.{proves}
 use Rattle.theory.specs.Endings.{Ending, Finished, Faulty}
-use Rattle.theory.specs.Series.{Call, Read, Take, Answer, Accepted, Refused, Window-full, Limit-reached, Entry, periods-read, base, due-take, told, due-read, due-at, Ran}
+use Rattle.theory.specs.Series.{window-size, period-limit, Call, Read, Take, Entry, periods-read, base, due-take, told, due-read, due-at, Ran}
 use Rattle.theory.specs.Runs.{Unproved, Some-proved, Take-tells, Refusal-tells, Read-tells, Tells, Within-limits, Answers-tell-the-truth}
 use Rattle.theory.proofs.Proving.{none-is-not-some, proves-sound, proves-complete}
 use Rattle.theory.proofs.Series.{ran-front}
@@ -28,7 +28,7 @@ module _ {F : Type 0} (c : Case) (n : ℕ) (ending : Ending F) (b t : ℕ) (with
   take-tells None e = (refl, unproved c b t e)
   take-tells (Some y) e = (proves-sound c b t y e, refl)
 
-  told-tells : (z : Ending F) → ending ≡ z → Unproved c b t → t < b + 256 → t < 10000 → t ≡ n → Refusal-tells c n ending b t (told z)
+  told-tells : (z : Ending F) → ending ≡ z → Unproved c b t → t < b + window-size → t < period-limit → t ≡ n → Refusal-tells c n ending b t (told z)
   unfolding told
   told-tells Finished e u p q r = (u, p, q, r, e)
   told-tells (Faulty f) e u p q r = (u, p, q, r, e)
@@ -42,16 +42,16 @@ module _ {F : Type 0} (c : Case) (n : ℕ) (ending : Ending F) (b t : ℕ) (with
   read-tells (Some y) p e f = (y, proves-sound c b t y e)
   read-tells None p e f =
       let u : Unproved c b t = unproved c b t e in
-      cond-both (leb 256 (t - b)) _ _ (Read-tells c n ending b t)
-      (λ g. (u, omega (arith, leb-true 256 (t - b) g, within .window)))
+      cond-both (leb window-size (t - b)) _ _ (Read-tells c n ending b t)
+      (λ g. (u, omega (arith, leb-true window-size (t - b) g, within .window)))
       (λ g.
-      let near : t < b + 256 = omega (arith, leb-false 256 (t - b) g) in
-      cond-both (leb 10000 t) _ _ (Read-tells c n ending b t)
-      (λ h. (u, near, omega (arith, leb-true 10000 t h, within .most)))
+      let near : t < b + window-size = omega (arith, leb-false window-size (t - b) g) in
+      cond-both (leb period-limit t) _ _ (Read-tells c n ending b t)
+      (λ h. (u, near, omega (arith, leb-true period-limit t h, within .most)))
       (λ h.
       cond-both (leb n t) _ _ (Read-tells c n ending b t)
-      (λ i. told-tells ending refl u near (leb-false 10000 t h) (omega (arith, leb-true n t i, within .demands)))
-      (λ i. let z = then-tells p f in (u, near, leb-false 10000 t h, leb-false n t i, z .0, z .1))))
+      (λ i. told-tells ending refl u near (leb-false period-limit t h) (omega (arith, leb-true n t i, within .demands)))
+      (λ i. let z = then-tells p f in (u, near, leb-false period-limit t h, leb-false n t i, z .0, z .1))))
 
   due-tells : (k : Call) → Tells c n ending b t k (due-at c n ending t b k)
   unfolding due-at

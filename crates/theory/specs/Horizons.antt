@@ -26,8 +26,8 @@ pub record Own-lot (c : Case) (y : Lot) : Type 0 where
   pub growth : least c (y .through) ≡ least c (y .from - 1) + y .costs
 
 -- The next lot of a plan begins after b, ends with the plan or sooner, and is the recursion's own.
-abbrev pub Next-lot-is-the-recursion's : Type 0
-Next-lot-is-the-recursion's =
+abbrev pub Next-lot-is-the-recursions-own : Type 0
+Next-lot-is-the-recursions-own =
     (c : Case) (b n : ℕ) (y : Lot) → next b (plan c n) ≡ Some y →
     (b < y .from) × (y .from ≤ y .through) × (y .through ≤ n) × Own-lot c y
 

@@ -1,10 +1,9 @@
 -- What the recursion says, and that its plans are the cheapest of all: the statements.
 use mathlib.Core.Path.{_≡_}
-use mathlib.Core.List.{List}
 use mathlib.Core.Bool.{cond}
 use Prim.Native.Nat.{ℕ, zero, suc, _+_, _*_, _≤_, _<_}
 use lib.Dec.{leb}
-use Rattle.theory.specs.Recursion.{Case, Lawful, over, option, lot-cost, least, last, plan}
+use Rattle.theory.specs.Recursion.{Case, Lawful, over, option, least, last, plan}
 use Rattle.theory.specs.Splittings.{Serves, cost, made-by, total, Cheapest}
 use Rattle.theory.specs.Regeneration.{Alike, end-of, Adjoins, Filled}
 

@@ -1,17 +1,17 @@
 -- The law of whole runs: what every series of calls, as recorded, promises in the subject's words.
 use mathlib.Core.Path.{_≡_}
 use mathlib.Core.List.{List, [], _∷_, _++_, map}
-use mathlib.Core.Bool.{Bool, true, false}
+use mathlib.Core.Bool.{true, false}
 use mathlib.Core.Logic.{_⊎_}
 use Prim.Native.Nat.{ℕ, suc, _+_, _-_, _≤_, _<_}
 use lib.ListN.{length, take, getD}
 use Rattle.theory.specs.Recursion.{Case, caseOf, LawfulCosts, Lot, plan}
-use Rattle.theory.specs.Splittings.{Serves, cost, total, Cheapest, Begins-with}
-use Rattle.theory.specs.Regeneration.{Proved, after, end-of}
+use Rattle.theory.specs.Splittings.{cost, total, Cheapest, Begins-with}
+use Rattle.theory.specs.Regeneration.{Proved, Filled, after, end-of}
 use Rattle.theory.specs.Horizons.{Settled}
 use Rattle.theory.specs.Netting.{Receipt, Rising, nets, Greatest-excess}
 use Rattle.theory.specs.Endings.{Ending, Finished, Faulty}
-use Rattle.theory.specs.Series.{Call, Read, Take, Handed, Refusal, None-proved, Lot-waits, Window-full, Limit-reached, Feed-ended, Feed-faulty, Answer, Given, Accepted, Refused, Entry, periods-read, taken, lots, base, up-to, Ran, go-on}
+use Rattle.theory.specs.Series.{window-size, period-limit, Call, Read, Take, Handed, Refusal, None-proved, Lot-waits, Window-full, Limit-reached, Feed-ended, Feed-faulty, Answer, Given, Accepted, Refused, Entry, periods-read, taken, lots, base, up-to, Ran, go-on}
 
 -- No lot is proved after t periods with the base b.
 abbrev pub Unproved : Case → ℕ → ℕ → Type 0
@@ -31,16 +31,16 @@ Take-tells c b t (Refused r) = (r ≡ None-proved) × Unproved c b t
 abbrev pub Refusal-tells : {F : Type 0} → Case → ℕ → Ending F → ℕ → ℕ → Refusal F → Type 0
 Refusal-tells c n ending b t None-proved = ⊥
 Refusal-tells c n ending b t Lot-waits = Some-proved c b t
-Refusal-tells c n ending b t Window-full = Unproved c b t × (t ≡ b + 256)
-Refusal-tells c n ending b t Limit-reached = Unproved c b t × (t < b + 256) × (t ≡ 10000)
-Refusal-tells c n ending b t Feed-ended = Unproved c b t × (t < b + 256) × (t < 10000) × (t ≡ n) × (ending ≡ Finished)
-Refusal-tells c n ending b t (Feed-faulty f) = Unproved c b t × (t < b + 256) × (t < 10000) × (t ≡ n) × (ending ≡ Faulty f)
+Refusal-tells c n ending b t Window-full = Unproved c b t × (t ≡ b + window-size)
+Refusal-tells c n ending b t Limit-reached = Unproved c b t × (t < b + window-size) × (t ≡ period-limit)
+Refusal-tells c n ending b t Feed-ended = Unproved c b t × (t < b + window-size) × (t < period-limit) × (t ≡ n) × (ending ≡ Finished)
+Refusal-tells c n ending b t (Feed-faulty f) = Unproved c b t × (t < b + window-size) × (t < period-limit) × (t ≡ n) × (ending ≡ Faulty f)
 
 -- A read is accepted only with no lot waiting, room in the window and a demand to come, and tells whether a lot is proved then.
 abbrev pub Read-tells : {F : Type 0} → Case → ℕ → Ending F → ℕ → ℕ → Answer F → Type 0
 Read-tells c n ending b t (Given h) = ⊥
 Read-tells c n ending b t (Accepted proved) =
-    Unproved c b t × (t < b + 256) × (t < 10000) × (t < n) ×
+    Unproved c b t × (t < b + window-size) × (t < period-limit) × (t < n) ×
     (proved ≡ true → Some-proved c b (suc t)) × (proved ≡ false → Unproved c b (suc t))
 Read-tells c n ending b t (Refused r) = Refusal-tells c n ending b t r
 
@@ -58,8 +58,8 @@ In-order r b (h ∷ hs) =
 -- With t periods read of n and the base b: no demand is read that is not there, nor more than the limits allow.
 pub record Within-limits (n t b : ℕ) : Type 0 where
   pub demands : t ≤ n
-  pub most : t ≤ 10000
-  pub window : t ≤ b + 256
+  pub most : t ≤ period-limit
+  pub window : t ≤ b + window-size
   pub behind : b ≤ t
 
 -- The first list begins the second.
@@ -104,12 +104,13 @@ module _ {F : Type 0} (K : ℕ → ℕ) (V : ℕ → ℕ → ℕ) (ds : List ℕ
       let e : Case = caseOf K V (take (periods-read es) ds ++ cs) in
       (x : ℕ → ℕ → ℕ) × Cheapest e x (periods-read es + length cs) × Begins-with e (lots (taken es)) x
 
-  -- All lots together are the plan of the periods read, and cost just what the cheapest plan of any kind does.
+  -- All lots together are the plan of the periods read, cost just what the cheapest plan of any kind does, and none is empty.
   pub record Emptied : Type 0 where
     pub is-plan : all-lots ≡ plan (caseOf K V ds) (periods-read es)
     pub x : ℕ → ℕ → ℕ
     pub cheapest : Cheapest (caseOf K V ds) x (periods-read es)
     pub costs : total all-lots ≡ cost (caseOf K V ds) x (periods-read es)
+    pub filled : Filled all-lots
 
   -- Where the demands are netted, the first lots, however many, hold the greatest excess of gross demand up to their end.
   abbrev pub Lots-hold-the-excess : Type 0

@@ -1,4 +1,4 @@
--- Plans of every kind: a plan x makes x j i units in period j for use in period i.
+-- Plans of every kind: under a plan x, period j makes x j i units towards what period i asks.
 use mathlib.Core.Path.{_≡_}
 use mathlib.Core.List.{List, [], _∷_}
 use mathlib.Core.Bool.{cond, _&&_}
