@@ -13,6 +13,6 @@ setupTold K j = cond (eqb j 0) None (Some (K j))
 abbrev pub unpriced : ℕ → ℕ → Bool
 unpriced j i = eqb j 0 || (ltb i j || ltb 255 (i - j))
 
--- the price of a unit made in period j for use in period i
+-- the price of a unit by the period j that makes it and the period i that uses it
 abbrev pub priceTold : (ℕ → ℕ → ℕ) → ℕ → ℕ → Option ℕ
 priceTold V j i = cond (unpriced j i) None (Some (V j i))

@@ -3,6 +3,8 @@ pub mod constant;
 pub mod fault;
 pub mod making;
 pub mod model;
+#[cfg(test)]
+mod tests;
 
 pub use constant::ConstantCosts;
 pub use fault::CostFault;

@@ -17,6 +17,10 @@ impl ConstantCosts {
         if holding > 3_000 {
             return Err(CostFault::Holding);
         }
-        Ok(ConstantCosts { setup, unit, holding })
+        Ok(ConstantCosts {
+            setup,
+            unit,
+            holding,
+        })
     }
 }

@@ -8,7 +8,7 @@ use Rattle.lots.specs.declared.lot.Lot.{Lot}
 use Rattle.lots.specs.declared.lot.LotKind.{LotKind}
 use Rattle.lots.specs.declared.lot.LotKind.the-variants.{Frozen, Closing}
 
--- the numbers of a lot, without the proof that they are lawful
+-- the kind and the five numbers of a lot, lawful or not
 pub record Terms : Type 0 where
   pub kind : LotKind
   pub from : ℕ
@@ -17,6 +17,7 @@ pub record Terms : Type 0 where
   pub cost : ℕ
   pub evidence : ℕ
 
+-- the terms of a lot, which are always lawful
 abbrev pub terms : Lot → Terms
 terms y = record { kind = y .kind; from = y .from; through = y .through; amount = y .amount; cost = y .cost; evidence = y .evidence }
 
@@ -25,14 +26,14 @@ abbrev pub settled : LotKind → ℕ → ℕ → Bool
 settled Frozen through evidence = ltb through evidence
 settled Closing through evidence = true
 
--- the numbers that make a lawful lot
+-- lawful terms: periods in order and few, at most 256 of them served, an amount and a cost in bounds, and settled
 abbrev pub lawful : Terms → Bool
 lawful y =
     leb 1 (y .from) && (leb (y .from) (y .through) && (leb (y .through) (y .evidence) && (leb (y .evidence) 10000 &&
     (leb (y .through) (y .from + 255) && (leb 1 (y .amount) && (leb (y .amount) 256000000 && (ltb (y .cost) (2 ^ 60) &&
     settled (y .kind) (y .through) (y .evidence))))))))
 
--- the lot of these numbers, where they are lawful
+-- the terms of the lot that these numbers make, or none where they are not lawful
 abbrev pub lotOf : LotKind → ℕ → ℕ → ℕ → ℕ → ℕ → Option Terms
 lotOf kind from through amount cost evidence =
     let y : Terms = record { kind = kind; from = from; through = through; amount = amount; cost = cost; evidence = evidence } in

@@ -1,6 +1,14 @@
-// What every layer shares: the lot, and numbers as decimal text.
+// What every layer shares: the lot, the check of dated lines, and numbers as decimal text.
+pub mod dated;
 mod lot;
 pub mod making;
+#[cfg(test)]
+mod tests;
 
+pub use dated::DatedFault;
+pub use dated::DatedLine;
+pub use dated::FirstDate;
+pub use dated::Refusal;
+pub use dated::check_dated;
 pub use lot::Lot;
 pub use lot::LotKind;

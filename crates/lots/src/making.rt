@@ -7,7 +7,14 @@ use crate::lot::LotKindPartialEq;
 
 impl Lot {
     // The lot of these numbers, if they make a lawful one.
-    pub fn new(kind: LotKind, from: u32, through: u32, amount: u32, cost: u64, evidence: u32) -> Option<Lot>
+    pub fn new(
+        kind: LotKind,
+        from: u32,
+        through: u32,
+        amount: u32,
+        cost: u64,
+        evidence: u32,
+    ) -> Option<Lot>
         ensures { λ r. ⌜ mapped terms r ≡ lotOf kind from through amount cost evidence ⌝ }
     {
         if from < 1 || through < from || evidence < through || evidence > 10_000 {
@@ -19,6 +26,13 @@ impl Lot {
         if kind == LotKind::Frozen && through == evidence {
             return None;
         }
-        Some(Lot { kind, from, through, amount, cost, evidence })
+        Some(Lot {
+            kind,
+            from,
+            through,
+            amount,
+            cost,
+            evidence,
+        })
     }
 }
