@@ -138,7 +138,7 @@ pub write-more : (ds : List ℕ) (n left i : ℕ) → length ds ≡ 20 → i ≤
     → decimal n ≡ decimal left ++ drop (i + 1) ds → decimal n ≡ decimal (left / 10) ++ drop (i - 1 + 1) (set ds i (48 + left % 10))
 write-more ds n left i long within some ten fit h =
     let back : drop (i - 1 + 1) (set ds i (48 + left % 10)) ≡ (48 + left % 10) ∷ drop (i + 1) ds =
-        ap (λ k. drop k (set ds i (48 + left % 10))) (omega arith) ∙ drop-set ds i _ (omega arith) in
+    ap (λ k. drop k (set ds i (48 + left % 10))) (omega arith) ∙ drop-set ds i _ (omega arith) in
     h ∙ ap (λ l. l ++ drop (i + 1) ds) (decimal-step left ten fit) ∙ append-assoc (decimal (left / 10)) ((48 + left % 10) ∷ []) (drop (i + 1) ds) ∙ ap (λ l. decimal (left / 10) ++ l) (sym back)
 
 pub write-last : (ds : List ℕ) (n left i : ℕ) → length ds ≡ 20 → i ≤ 19 → left < 10
@@ -171,12 +171,12 @@ unfolding numberAt wellFormed
 number-bounded most bs =
     cond-both (wellFormed most (digitsAt bs)) _ _ (λ r. found r (Bounded most bs))
     (λ w.
-        let some : 1 ≤ length (digitsAt bs) = grind (arith, tells) in
-        let few : length (digitsAt bs) ≤ most = grind (arith, tells) in
-        record { value = value-short own (digitsAt bs) most (all-digits bs .0) few; some = some; within = all-digits bs .1 })
+    let some : 1 ≤ length (digitsAt bs) = grind (arith, tells) in
+    let few : length (digitsAt bs) ≤ most = grind (arith, tells) in
+    record { value = value-short own (digitsAt bs) most (all-digits bs .0) few; some = some; within = all-digits bs .1 })
     (λ _. tt)
 
-field-bounded : (most stop : ℕ) (bs : List ℕ) → found (fieldAt most stop bs) (Bounded most bs)
+pub field-bounded : (most stop : ℕ) (bs : List ℕ) → found (fieldAt most stop bs) (Bounded most bs)
 unfolding fieldAt
 field-bounded most stop bs = go (numberAt most bs) (number-bounded most bs)
   where

@@ -46,7 +46,10 @@ pub fn field(text: &[u8], most: usize, stop: u8) -> Option<Numeral>
 {
     let Numeral { value, length } = number(text, most)?;
     if length < text.len() && text[length] == stop {
-        return Some(Numeral { value, length: length + 1 });
+        return Some(Numeral {
+            value,
+            length: length + 1,
+        });
     }
     None
 }

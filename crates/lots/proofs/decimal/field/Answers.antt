@@ -21,6 +21,6 @@ unfolding fieldAt
 returns c =
     let told = ap (stopped (c .args .stop) (c .args .text .now)) (c .in-Continue-value .ensures tt .told) in
     elim (c .else-length-text .came) [
-      else-length-text·by·then-length-text·else-text-length w ↦ field-told _ _ _ _ (sym (cond-false _ _ _ (and-right _ _ (ne-eqb _ _ (w .if-text-length .left)))) ∙ told)
+      | else-length-text·by·then-length-text·else-text-length w ↦ field-told _ _ _ _ (sym (cond-false _ _ _ (and-right _ _ (ne-eqb _ _ (w .if-text-length .left)))) ∙ told)
       | else-length-text·by·else-length-text w ↦ field-told _ _ _ _ (sym (cond-false _ _ _ (and-left _ _ (le-ltb _ _ (w .if-length-text .left)))) ∙ told)
     ]

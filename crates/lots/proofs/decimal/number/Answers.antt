@@ -29,15 +29,16 @@ loop-length-again c = (
   omega arith,
   omega arith,
   subst (λ d. Sofar (c .args .text .now) (c .loop-length .length + 1) (c .loop-length .value * 10 + d)) (sym (c .from .ensures))
-  (more _ _ _ (c .loop-length-test .taken) (sym (c .if-is-ascii-digit .ensures tt .value)) (c .loop-length .inv .3)),
+      (more _ _ _ (c .loop-length-test .taken) (sym (c .if-is-ascii-digit .ensures tt .value)) (c .loop-length .inv .3)),
 )
 
 -- the loop ends where the digits do
 ended : (c : Left-loop-length) → digitsAt (drop (c .loop-length .length) (c .args .text .now)) ≡ []
 ended c =
     elim (c .loop-length-test .came) [
-      then-loop-length-test·else-is-ascii-digit w ↦ digits-other _ _ (w .loop-length-test .taken) (sym (w .is-ascii-digit .ensures .value) ∙ w .if-is-ascii-digit .left)
-      | else-loop-length-test w ↦ digits-end _ _ (w .loop-length-test .left) ]
+      | then-loop-length-test·else-is-ascii-digit w ↦ digits-other _ _ (w .loop-length-test .taken) (sym (w .is-ascii-digit .ensures .value) ∙ w .if-is-ascii-digit .left)
+      | else-loop-length-test w ↦ digits-end _ _ (w .loop-length-test .left)
+    ]
 
 pub returns-then-length-eq0 : need.returns-then-length-eq0
 returns-then-length-eq0 c =

@@ -11,8 +11,7 @@ use Rattle.lots.proofs.decimal.push_decimal.Needs as need
 pub loop-left-again : need.loop-left-again
 loop-left-again c =
     let inv = c .loop-left .inv in
-    let far = room (c .loop-left .left) (c .loop-left .first) (c .loop-left-test .taken) (inv .3) in
-    (
+    let far = room (c .loop-left .left) (c .loop-left .first) (c .loop-left-test .taken) (inv .3) in (
       length-set _ _ _ ∙ inv .0,
       omega arith,
       omega arith,
