@@ -1,7 +1,13 @@
 // Feeds hand out the demand of one period after another.
 pub mod fault;
 pub mod feed;
+mod line;
+pub mod text;
 
 pub use fault::FeedFault;
 pub use fault::RecordFault;
 pub use feed::Feed;
+pub use text::TextFeed;
+
+#[cfg(test)]
+mod tests;

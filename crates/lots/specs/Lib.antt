@@ -1,2 +1,3 @@
 pub mod Dated
+pub mod Decimals
 pub mod Lots

@@ -1,5 +1,6 @@
 // What every layer shares: the lot, the check of dated lines, and numbers as decimal text.
 pub mod dated;
+pub mod decimal;
 mod lot;
 pub mod making;
 #[cfg(test)]
@@ -10,5 +11,6 @@ pub use dated::DatedLine;
 pub use dated::FirstDate;
 pub use dated::Refusal;
 pub use dated::check_dated;
+pub use decimal::Numeral;
 pub use lot::Lot;
 pub use lot::LotKind;
