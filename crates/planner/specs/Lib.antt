@@ -1,3 +1,4 @@
 pub mod Describing
 pub mod Windows
 pub mod Lots
+pub mod Whole

@@ -25,6 +25,13 @@ impl Rows {
         Ok(Rows { base: 0, before, rows, options })
     }
 
+    // Where the window begins.
+    pub fn base(&self) -> u32
+        ensures { λ r. ⌜ r ≡ now (self .entry) .base ⌝ }
+    {
+        self.base
+    }
+
     // How many periods were read.
     pub fn read(&self) -> u32
         ensures { λ r. ⌜ r ≡ reading (window (now (self .entry))) ⌝ }
