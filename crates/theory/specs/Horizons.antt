@@ -43,7 +43,7 @@ Next-lot-is-the-recursions-own =
     (c : Case) (b n : ℕ) (y : Lot) → next b (plan c n) ≡ Some y →
     (b < y .from) × (y .from ≤ y .through) × (y .through ≤ n) × Own-lot c y
 
--- So does a proved lot, and it ends before its evidence.
+-- A proved lot is the recursion's own too; it begins after the base and ends before its evidence.
 abbrev pub Proved-lot-ends-before-its-evidence : Type 0
 Proved-lot-ends-before-its-evidence =
     (c : Case) (b t : ℕ) (y : Lot) → Proved c b t y →
