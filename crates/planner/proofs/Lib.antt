@@ -4,5 +4,7 @@ pub mod Growth
 pub mod Soundness
 pub mod Growing
 pub mod Backward
+pub mod Proven
+pub mod Moving
 pub mod Feeding
 pub mod Planning

@@ -3,7 +3,7 @@ use mathlib.Core.Path.{_≡_}
 use mathlib.Core.List.{List, [], _∷_, _++_}
 use mathlib.Core.Logic.{_⊎_}
 use Prim.Native.Nat.{ℕ, zero, suc, _+_, _-_, _*_, _≤_, _<_}
-use lib.ListN.{length, getD}
+use lib.ListN.{length, getD, drop}
 use Rattle.theory.specs.Recursion.{Case, Lawful, over, least, last, lot-cost}
 use Rattle.planner.specs.declared.rows.row.Row.{Row}
 
@@ -92,3 +92,7 @@ pub record Grown (K : ℕ → ℕ) (V : ℕ → ℕ → ℕ) (d : ℕ) (w v : Wi
   -- a period without demand takes over least cost and last setup
   pub idle : d ≡ 0 → (row .least ≡ rowAfter w (length (w .rows)) .least) × (row .last ≡ rowAfter w (length (w .rows)) .last)
   pub busy : 1 ≤ d → (place : ℕ) × Chosen K V d w (row .least) place × (row .last ≡ suc (w .base + place))
+
+-- the window from a later base on
+abbrev pub movedTo : ℕ → Window → Window
+movedTo through w = windowOf through (rowAfter w (through - w .base)) (drop (through - w .base) (w .rows)) (drop (through - w .base) (w .options))

@@ -5,8 +5,10 @@ ghost use lib.ListN.{length};
 ghost use Rattle.std.specs.Of.Vec.{vec-len, vec-cap, vec-items};
 ghost use Rattle.planner.specs.Describing.{Sound, windowOf};
 mod growth;
+mod moving;
 mod options;
 mod plans;
+mod proving;
 pub mod row;
 
 use crate::rows::row::Row;
