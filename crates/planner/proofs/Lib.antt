@@ -8,3 +8,4 @@ pub mod Proven
 pub mod Moving
 pub mod Feeding
 pub mod Planning
+pub mod Following

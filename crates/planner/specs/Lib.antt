@@ -2,3 +2,8 @@ pub mod Describing
 pub mod Windows
 pub mod Lots
 pub mod Whole
+pub mod Refusals
+pub mod Answers
+pub mod Proving
+pub mod Tracking
+pub mod Unchanged

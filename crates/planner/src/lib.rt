@@ -1,5 +1,8 @@
 // The planner: it reads a forecast and says which lots to make.
+pub mod calls;
+mod planner;
 pub mod refusal;
+pub mod refusals;
 mod rows;
 pub mod whole;
 

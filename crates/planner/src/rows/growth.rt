@@ -32,6 +32,13 @@ impl Rows {
         self.base
     }
 
+    // How many periods lie beyond the base.
+    pub fn len(&self) -> usize
+        ensures { λ r. ⌜ r ≡ length (window (now (self .entry)) .rows) ⌝ }
+    {
+        self.rows.len()
+    }
+
     // How many periods were read.
     pub fn read(&self) -> u32
         ensures { λ r. ⌜ r ≡ reading (window (now (self .entry))) ⌝ }
