@@ -9,3 +9,4 @@ pub mod Moving
 pub mod Feeding
 pub mod Planning
 pub mod Following
+pub mod Taking

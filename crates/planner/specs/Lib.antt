@@ -7,3 +7,4 @@ pub mod Answers
 pub mod Proving
 pub mod Tracking
 pub mod Unchanged
+pub mod Resting

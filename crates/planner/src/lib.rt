@@ -1,5 +1,6 @@
 // The planner: it reads a forecast and says which lots to make.
 pub mod calls;
+mod closed;
 mod planner;
 pub mod refusal;
 pub mod refusals;

@@ -4,6 +4,7 @@ ghost use Rattle.planner.specs.Windows.{window};
 use crate::rows::Rows;
 use crate::rows::row::Span;
 
+mod closing;
 mod reading;
 mod taking;
 

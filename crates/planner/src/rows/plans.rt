@@ -40,7 +40,9 @@ impl Rows {
     pub fn lot(&self, kind: LotKind, span: Span) -> Lot
         requires spans { ⌜ Spans (window (now self)) (now self .base) span ⌝ }
         requires settled { ⌜ (kind ≡ Frozen → span .through < reading (window (now self))) ⌝ }
-        ensures { λ r. ⌜ ((c : Case) → Describes c (window (now (self .entry))) → terms r ≡ handed kind (reading (window (now (self .entry)))) (lot c (span .from) (span .through))) ⌝ }
+        ensures kind { λ r. ⌜ r .kind ≡ kind ⌝ }
+        ensures through { λ r. ⌜ r .through ≡ span .through ⌝ }
+        ensures means { λ r. ⌜ ((c : Case) → Describes c (window (now (self .entry))) → terms r ≡ handed kind (reading (window (now (self .entry)))) (lot c (span .from) (span .through))) ⌝ }
     {
         let before = self.at(span.from - 1);
         let end = self.at(span.through);

@@ -39,7 +39,7 @@ loop-span-again c =
           subst (λ (done : List Terms). done ++ map (handed Closing t) (after (c .in-Some .span .through) (plan d t)) ≡ map (handed Closing t) (after (c .args .rows .now .base) (plan d t)))
           (sym listed)
           (rest-step d _ _ _ _ _ _ _ (c .in-Some .ensures tt .means d h ∙ ap (λ n. mapped spanOf (next (c .loop-span .after) (plan d n))) (c .read .ensures))
-          (c .lot .ensures d h) (c .loop-span .inv .1 d h)),
+          (c .lot .ensures .means d h) (c .loop-span .inv .1 d h)),
     )
 
 pub returns : need.returns

@@ -1,4 +1,4 @@
-use mathlib.Core.Path.{_≡_, ap, sym, _∙_}
+use mathlib.Core.Path.{_≡_, refl, ap, sym, _∙_}
 use Prim.Native.Nat.{ℕ, _+_, _-_, _*_, _≤_, _<_}
 use native.Mathlib.Omega.{arith}
 use lib.ListN.{length}
@@ -81,12 +81,16 @@ ghost-result c =
 
 pub returns : need.returns
 unfolding lot
-returns c d h =
-    let r = c .args .self .now in
-    let w : Window = window r in
-    let s = c .args .span in
-    let amount : c .at-end .result .demanded - c .at-before .result .demanded ≡ over (d .demand) (s .from) (s .through) =
-    omega (arith, span-amount d w h s (c .pre .spans), ap (λ x. x .demanded) (c .at-before .ensures), ap (λ x. x .demanded) (c .at-end .ensures)) in
-    let cost : c .at-end .result .least - c .at-before .result .least ≡ lot-cost d (s .from) (s .through) =
-    omega (arith, span-cost d w h s (c .pre .spans), ap (λ x. x .least) (c .at-before .ensures), ap (λ x. x .least) (c .at-end .ensures)) in
-    λ i. record { kind = c .args .kind; from = s .from; through = s .through; amount = amount i; cost = cost i; evidence = c .read .ensures i }
+returns c = record {
+  kind = refl;
+  through = refl;
+  means = λ d h.
+      let r = c .args .self .now in
+      let w : Window = window r in
+      let s = c .args .span in
+      let amount : c .at-end .result .demanded - c .at-before .result .demanded ≡ over (d .demand) (s .from) (s .through) =
+      omega (arith, span-amount d w h s (c .pre .spans), ap (λ x. x .demanded) (c .at-before .ensures), ap (λ x. x .demanded) (c .at-end .ensures)) in
+      let cost : c .at-end .result .least - c .at-before .result .least ≡ lot-cost d (s .from) (s .through) =
+      omega (arith, span-cost d w h s (c .pre .spans), ap (λ x. x .least) (c .at-before .ensures), ap (λ x. x .least) (c .at-end .ensures)) in
+      λ i. record { kind = c .args .kind; from = s .from; through = s .through; amount = amount i; cost = cost i; evidence = c .read .ensures i };
+}
