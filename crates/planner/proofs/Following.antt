@@ -1,5 +1,5 @@
 -- What a planner's calls are due after a series, told from its rows and its feed.
-use mathlib.Core.Path.{_≡_, refl, ap, sym, subst, subst₃, _∙_}
+use mathlib.Core.Path.{_≡_, refl, ap, sym, subst, subst₂, subst₃, _∙_}
 use mathlib.Core.Bool.{Bool, true, false, cond}
 use mathlib.Core.List.{List, [], _∷_, _++_}
 use mathlib.Core.Logic.{_⊎_, inl, inr}
@@ -23,7 +23,7 @@ use Rattle.planner.specs.declared.rows.row.Span.{Span}
 use Rattle.planner.specs.Describing.{Window, reading, Describes, Grown}
 use Rattle.planner.specs.Lots.{spanOf}
 use Rattle.planner.specs.Proving.{TellsProved}
-use Rattle.planner.specs.Tracking.{Tracks}
+use Rattle.planner.specs.Tracking.{Tracks, Follows}
 use Rattle.planner.specs.Windows.{empty}
 use Rattle.theory.proofs.Laws.{last-zero}
 use Rattle.planner.proofs.Proven.{unproved-idle}
@@ -172,3 +172,13 @@ some-told w (Some s) e h = (s, h)
 pub none-told : (w : Window) (p : Option Span) → isSome p ≡ false → TellsProved w p → TellsProved w None
 none-told w None e h = h
 none-told w (Some s) e h = absurd (never (cc))
+
+-- a call that is known by another name
+pub follows-as : (K : ℕ → ℕ) (V : ℕ → ℕ → ℕ) (w : Window) (left : List ℕ) (end : Ending FeedFault) (a b : Call) (answer : Answer FeedFault) (v : Window) (left′ : List ℕ) (end′ : Ending FeedFault) →
+    a ≡ b → Follows K V w left end b answer v left′ end′ → Follows K V w left end a answer v left′ end′
+follows-as K V w left end a b answer v left′ end′ same f = subst (λ k. Follows K V w left end k answer v left′ end′) (sym same) f
+
+-- costs that are the same
+pub follows-costs : (K J : ℕ → ℕ) (V W : ℕ → ℕ → ℕ) (w : Window) (left : List ℕ) (end : Ending FeedFault) (a : Call) (answer : Answer FeedFault) (v : Window) (left′ : List ℕ) (end′ : Ending FeedFault) →
+    K ≡ J → V ≡ W → Follows K V w left end a answer v left′ end′ → Follows J W w left end a answer v left′ end′
+follows-costs K J V W w left end a answer v left′ end′ k p f = subst₂ (λ x y. Follows x y w left end a answer v left′ end′) k p f

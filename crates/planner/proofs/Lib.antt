@@ -10,3 +10,5 @@ pub mod Feeding
 pub mod Planning
 pub mod Following
 pub mod Taking
+pub mod Emptied
+pub mod Running

@@ -8,3 +8,4 @@ pub mod Proving
 pub mod Tracking
 pub mod Unchanged
 pub mod Resting
+pub mod Runs

@@ -4,6 +4,7 @@ use crate::rows::Rows;
 
 mod resting;
 
+#[derive(Drop)]
 pub struct Closed<F, M> {
     feed: F,
     model: M,

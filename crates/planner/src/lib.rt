@@ -5,6 +5,8 @@ mod planner;
 pub mod refusal;
 pub mod refusals;
 mod rows;
+pub mod run;
+pub mod series;
 pub mod whole;
 
 pub use refusal::PlanRefusal;

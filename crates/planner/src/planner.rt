@@ -4,10 +4,12 @@ ghost use Rattle.planner.specs.Windows.{window};
 use crate::rows::Rows;
 use crate::rows::row::Span;
 
+mod calling;
 mod closing;
 mod reading;
 mod taking;
 
+#[derive(Drop)]
 pub struct Planner<F, M> {
     feed: F,
     model: M,

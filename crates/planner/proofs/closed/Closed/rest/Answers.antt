@@ -25,5 +25,13 @@ returns g c = record {
       let found = c .in-Some .ensures tt .means d h ∙ ap (λ n. mapped spanOf (next (c .args .self .now .after) (plan d n))) (c .read .ensures) in
       let y = next-lot d _ _ _ found in
       ap Ok (c .lot .ensures .means d h ∙ ap (handed Closing (reading (window r))) (sym (y .2))) ∙ sym (ap (restOf (reading (window r))) (y .1));
+  closing = c .lot .ensures .kind;
+  onward =
+      let r = c .args .self .now .rows in
+      let sp = c .in-Some .ensures tt .spans in
+      (
+        omega (arith, forward (window r) (r .sound) _ (spans-base (window r) _ _ (c .args .self .now .onward) sp), sp .later, c .lot .ensures .through),
+        omega (arith, sp .read, c .lot .ensures .through),
+      );
   left = record { feed = refl; model = refl; rows = refl; after = sym (c .lot .ensures .through) };
 }
