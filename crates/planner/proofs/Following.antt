@@ -20,6 +20,9 @@ use Rattle.theory.specs.Regeneration.{proves, end-of}
 use Rattle.theory.specs.Series.{Call, Read, Take, Handed, Refusal, Lot-waits, Window-full, Limit-reached, Feed-ended, Feed-faulty, None-proved, Answer, Given, Accepted, Refused, Entry, read-by, given-by, periods-read, taken, lots, base, due-take, due-read, due-at, due-answer, told, Ran}
 use Rattle.theory.proofs.Series.{ran-push, read-push, taken-push}
 use Rattle.planner.specs.declared.rows.row.Span.{Span}
+use Rattle.planner.specs.declared.refusals.TakeRefusal.{TakeRefusal}
+use Rattle.planner.specs.declared.refusals.TakeRefusal.the-variants.{NoneProved}
+use Rattle.planner.specs.Answers.{takeRefusal}
 use Rattle.planner.specs.Describing.{Window, reading, Describes, Grown}
 use Rattle.planner.specs.Lots.{spanOf}
 use Rattle.planner.specs.Proving.{TellsProved}
@@ -182,3 +185,17 @@ follows-as K V w left end a b answer v left′ end′ same f = subst (λ k. Foll
 pub follows-costs : (K J : ℕ → ℕ) (V W : ℕ → ℕ → ℕ) (w : Window) (left : List ℕ) (end : Ending FeedFault) (a : Call) (answer : Answer FeedFault) (v : Window) (left′ : List ℕ) (end′ : Ending FeedFault) →
     K ≡ J → V ≡ W → Follows K V w left end a answer v left′ end′ → Follows J W w left end a answer v left′ end′
 follows-costs K J V W w left end a answer v left′ end′ k p f = subst₂ (λ x y. Follows x y w left end a answer v left′ end′) k p f
+
+-- a window that grew has read one period more
+pub grown-reads : {K : ℕ → ℕ} {V : ℕ → ℕ → ℕ} {d : ℕ} (w v : Window) → Grown K V d w v → reading v ≡ suc (reading w)
+grown-reads w v g = omega (arith, g .base, ap length (g .rows), length-push (w .rows) (g .row))
+
+-- a planner that is as it was before the call before
+pub follows-same : (K J : ℕ → ℕ) (V W : ℕ → ℕ → ℕ) (w v : Window) (left left₂ : List ℕ) (end end₂ : Ending FeedFault) (a : Call) (x y : Answer FeedFault) (u : Window) (left′ : List ℕ) (end′ : Ending FeedFault) →
+    K ≡ J → V ≡ W → v ≡ w → left₂ ≡ left → end₂ ≡ end → x ≡ y → Follows K V v left₂ end₂ a x u left′ end′ → Follows J W w left end a y u left′ end′
+follows-same K J V W w v left left₂ end end₂ a x y u left′ end′ k p q l e r f =
+    subst₃ (λ s t o. Follows J W s t o a y u left′ end′) q l e (subst₃ (λ s t o. Follows s t v left₂ end₂ a o u left′ end′) k p r f)
+
+-- a take has one refusal
+pub take-refused : (r : TakeRefusal) → Refused (takeRefusal r) ≡ Refused None-proved
+take-refused NoneProved = refl

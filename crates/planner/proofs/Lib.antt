@@ -12,3 +12,5 @@ pub mod Following
 pub mod Taking
 pub mod Emptied
 pub mod Running
+pub mod Eagerly
+pub mod Rolled

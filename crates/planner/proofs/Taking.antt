@@ -81,6 +81,13 @@ module _ (w : Window) (sound : ∥ Sound w ∥₁) (s : Span) (told : TellsProve
   pub proved-onward : w .base ≤ s .through
   proved-onward = ∥∥₁-elim sound le-prop (λ x. omega (arith, starts (x .case) w (x .describes) s told, goes-forward (x .case) w (x .describes) s told))
 
+  pub proved-strictly : w .base < s .through
+  proved-strictly = ∥∥₁-elim sound le-prop (λ x. omega (arith, starts (x .case) w (x .describes) s told, goes-forward (x .case) w (x .describes) s told))
+
+  -- as many periods were read after the base has moved
+  pub moved-reads : (v : Window) → v ≡ movedTo (s .through) w → reading v ≡ reading w
+  moved-reads v moved = ap reading moved ∙ omega (arith, length-drop (s .through - w .base) (w .rows), proved-onward, proved-settled)
+
   pub proved-inside : s .through ≤ rowAfter w (length (w .rows)) .last - 1
   proved-inside = ∥∥₁-elim sound le-prop (λ x.
       omega (arith, before-last (x .case) w (x .describes) s told, x .describes .told (length (w .rows)) (omega arith) .last))

@@ -9,3 +9,5 @@ pub mod Tracking
 pub mod Unchanged
 pub mod Resting
 pub mod Runs
+pub mod Rolling
+pub mod Freezing

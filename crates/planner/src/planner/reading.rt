@@ -1,8 +1,10 @@
 // Opening a planner and reading into it.
 ghost use mathlib.Core.Path.{_≡_};
+ghost use Prim.Native.Nat.{suc};
 ghost use Rattle.std.specs.Vec.{made, refused};
 ghost use Rattle.theory.specs.Series.{Read};
 ghost use Rattle.planner.specs.Answers.{readAnswer};
+ghost use Rattle.planner.specs.Describing.{reading};
 ghost use Rattle.planner.specs.Tracking.{Follows};
 ghost use Rattle.planner.specs.Unchanged.{Unchanged};
 ghost use Rattle.planner.specs.Windows.{window, empty};
@@ -39,6 +41,7 @@ impl<F: Feed, M: CostModel> Planner<F, M> {
     // Reads the next period from the feed and tells whether a lot is proved now.
     pub fn read(&mut self) -> Result<bool, ReadRefusal>
         ensures follows { λ r. ⌜ Follows (M·CostModel .K (now (self .entry) .model)) (M·CostModel .V (now (self .entry) .model)) (window (now (self .entry) .rows)) (F·Feed .demands (now (self .entry) .feed)) (F·Feed .ending (now (self .entry) .feed)) Read (readAnswer r) (window (now (self .exit) .rows)) (F·Feed .demands (now (self .exit) .feed)) (F·Feed .ending (now (self .exit) .feed)) ⌝ }
+        ensures onward { λ r. ⌜ made r (λ _. (window (now (self .exit) .rows) .base ≡ window (now (self .entry) .rows) .base) × (reading (window (now (self .exit) .rows)) ≡ suc (reading (window (now (self .entry) .rows))))) ⌝ }
         ensures model { λ r. ⌜ now (self .exit) .model ≡ now (self .entry) .model ⌝ }
         ensures refused { λ r. ⌜ refused r (λ _. Unchanged (now (self .entry)) (now (self .exit))) ⌝ }
     {

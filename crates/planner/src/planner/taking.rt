@@ -1,9 +1,11 @@
 // Taking the lots that are proved.
 ghost use mathlib.Core.Path.{_≡_};
+ghost use Prim.Native.Nat.{_<_};
 ghost use Rattle.std.specs.Vec.{made, refused};
 ghost use Rattle.theory.specs.Series.{Take};
 ghost use Rattle.lots.specs.declared.lot.LotKind.the-variants.{Frozen};
 ghost use Rattle.planner.specs.Answers.{takeAnswer};
+ghost use Rattle.planner.specs.Describing.{reading};
 ghost use Rattle.planner.specs.Tracking.{Follows};
 ghost use Rattle.planner.specs.Unchanged.{Unchanged};
 ghost use Rattle.planner.specs.Windows.{window};
@@ -18,6 +20,7 @@ impl<F: Feed, M: CostModel> Planner<F, M> {
     // Hands out the proved lot as frozen, and makes its end the base. Another lot may be proved at once.
     pub fn take(&mut self) -> Result<Lot, TakeRefusal>
         ensures follows { λ r. ⌜ Follows (M·CostModel .K (now (self .entry) .model)) (M·CostModel .V (now (self .entry) .model)) (window (now (self .entry) .rows)) (F·Feed .demands (now (self .entry) .feed)) (F·Feed .ending (now (self .entry) .feed)) Take (takeAnswer r) (window (now (self .exit) .rows)) (F·Feed .demands (now (self .exit) .feed)) (F·Feed .ending (now (self .exit) .feed)) ⌝ }
+        ensures onward { λ r. ⌜ made r (λ y. (window (now (self .exit) .rows) .base ≡ y .through) × (window (now (self .entry) .rows) .base < y .through) × (reading (window (now (self .exit) .rows)) ≡ reading (window (now (self .entry) .rows)))) ⌝ }
         ensures frozen { λ r. ⌜ made r (λ y. y .kind ≡ Frozen) ⌝ }
         ensures feed { λ r. ⌜ now (self .exit) .feed ≡ now (self .entry) .feed ⌝ }
         ensures model { λ r. ⌜ now (self .exit) .model ≡ now (self .entry) .model ⌝ }

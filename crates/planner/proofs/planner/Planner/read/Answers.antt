@@ -11,7 +11,7 @@ use Rattle.planner.specs.Tracking.{Tracks}
 use Rattle.planner.specs.Windows.{window}
 use Rattle.std.specs.declared.option.Option.the-variants.{None}
 use Rattle.planner.proofs.Feeding.{told-some, told-end, told-fault}
-use Rattle.planner.proofs.Following.{stays, stays-so, waits, full, limit, ended, faulty, goes-on, some-told, none-told}
+use Rattle.planner.proofs.Following.{grown-reads, stays, stays-so, waits, full, limit, ended, faulty, goes-on, some-told, none-told}
 use Rattle.planner.proofs.planner.Planner.read.Given as given
 use Rattle.planner.proofs.planner.Planner.read.Needs as need
 use Rattle.planner.proofs.planner.Planner.read.Needs.{Else-is-some}
@@ -25,6 +25,7 @@ returns-then-is-some g c = record {
   follows = λ ds ending es tr.
       let some = some-told _ _ (sym (c .is-some .ensures) ∙ c .if-is-some .taken) (c .args .self .now .right) in
       stays _ _ ds ending es _ _ _ tr Read _ (waits _ _ ds ending es _ _ _ tr (some .0) (some .1));
+  onward = tt;
   model = search needs;
   refused = record { feed = refl; model = refl; rows = refl; proved = refl };
 }
@@ -34,6 +35,7 @@ returns-then-len-ge-WINDOW g c = record {
   follows = λ ds ending es tr.
       stays _ _ ds ending es _ _ _ tr Read _
       (full _ _ ds ending es _ _ _ tr (unproved g (need.at·returns-then-len-ge-WINDOW g c .Else-is-some)) (omega (arith, c .len .ensures)));
+  onward = tt;
   model = search needs;
   refused = record { feed = refl; model = refl; rows = refl; proved = refl };
 }
@@ -43,6 +45,7 @@ returns-then-read-ge-LONGEST g c = record {
   follows = λ ds ending es tr.
       stays _ _ ds ending es _ _ _ tr Read _
       (limit _ _ ds ending es _ _ _ tr (unproved g (need.at·returns-then-read-ge-LONGEST g c .Else-is-some)) (omega (arith, c .len .ensures)) (omega (arith, c .read .ensures)));
+  onward = tt;
   model = search needs;
   refused = record { feed = refl; model = refl; rows = refl; proved = refl };
 }
@@ -56,6 +59,7 @@ returns-in-rest g c =
       follows = λ ds ending es tr.
           stays-so _ _ ds ending es _ _ _ tr Read _ _ _ _ refl (ap (g .F·Feed .demands) same) (ap (g .F·Feed .ending) same)
           (ended _ _ ds ending es _ _ _ tr (unproved g (need.at·returns-in-rest g c .Else-is-some)) (omega (arith, c .len .ensures)) (omega (arith, c .read .ensures)) (end .0) (end .1));
+      onward = tt;
       model = search needs;
       refused = record { feed = same; model = refl; rows = refl; proved = refl };
     }
@@ -71,6 +75,7 @@ returns-in-Break-demand g c =
       follows = λ ds ending es tr.
           stays-so _ _ ds ending es _ _ _ tr Read _ _ _ _ answered (ap (g .F·Feed .demands) same) (ap (g .F·Feed .ending) same)
           (faulty _ _ ds ending es _ _ _ tr (unproved g (need.at·returns-in-Break-demand g c .Else-is-some)) (omega (arith, c .len .ensures)) (omega (arith, c .read .ensures)) (end .0) _ (end .1));
+      onward = rw (out .1) tt;
       model = search needs;
       refused = rw (out .1) (record { feed = same; model = refl; rows = refl; proved = refl });
     }
@@ -83,6 +88,7 @@ returns g c =
       follows = λ ds ending es tr.
           goes-on _ _ ds ending es _ _ _ tr (g .M·CostModel·met .lawful (p .model)) (unproved g (need.at·returns g c .Else-is-some))
           (omega (arith, c .len .ensures)) (omega (arith, c .read .ensures)) _ _ _ _ _ _ (c .is-some-2 .ensures) next (c .next .ensures .others) (c .next .ensures .ending) (c .push .ensures) (c .proved-span-self .ensures);
+      onward = (c .push .ensures .base, grown-reads _ _ (c .push .ensures));
       model = search needs;
       refused = tt;
     }
