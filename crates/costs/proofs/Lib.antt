@@ -1,0 +1,5 @@
+mod Jumps
+mod Refusing
+mod InForce
+mod Held
+mod Told
