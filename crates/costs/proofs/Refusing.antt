@@ -1,5 +1,5 @@
 -- Why cost lines are refused, from what the two parts of the check found.
-use mathlib.Core.Path.{_≡_, ap, _∙_}
+use mathlib.Core.Path.{_≡_, refl, ap, _∙_}
 use mathlib.Core.List.{List}
 use mathlib.Core.Bool.{Bool, true, false, cond}
 use Rattle.std.specs.declared.option.Option.{Option}
@@ -15,16 +15,16 @@ use Rattle.costs.specs.Dated.{lineFault, jumps, linesFault}
 abbrev either : Option (DatedFault CostFault) → Bool → Option DatedCostsFault
 either o j = orOther (mapped Lines o) (cond j (Some Speculation) None)
 
-by-parts : (lines : List CostLine) (o : Option (DatedFault CostFault)) (j : Bool) → lineFault lines ≡ o → jumps lines ≡ j → linesFault lines ≡ either o j
+-- each is stated from what was found, as the calls tell it
+by-parts : (lines : List CostLine) (o : Option (DatedFault CostFault)) (j : Bool) → o ≡ lineFault lines → j ≡ jumps lines → either o j ≡ linesFault lines
 unfolding linesFault
-by-parts lines o j e k = ap (λ a. either a (jumps lines)) e ∙ ap (either o) k
+by-parts lines o j e k = ap (λ a. either a j) e ∙ ap (either (lineFault lines)) k
 
-pub fault-of-line : (lines : List CostLine) (f : DatedFault CostFault) → lineFault lines ≡ Some f → linesFault lines ≡ Some (Lines f)
-unfolding linesFault
-fault-of-line lines f e = ap (λ a. either a (jumps lines)) e
+pub fault-of-line : (lines : List CostLine) (f : DatedFault CostFault) → Some f ≡ lineFault lines → Some (Lines f) ≡ linesFault lines
+fault-of-line lines f e = by-parts lines (Some f) (jumps lines) e refl
 
-pub fault-of-jump : (lines : List CostLine) → lineFault lines ≡ None → jumps lines ≡ true → linesFault lines ≡ Some Speculation
+pub fault-of-jump : (lines : List CostLine) → None ≡ lineFault lines → true ≡ jumps lines → Some Speculation ≡ linesFault lines
 fault-of-jump lines e j = by-parts lines None true e j
 
-pub no-fault : (lines : List CostLine) → lineFault lines ≡ None → jumps lines ≡ false → linesFault lines ≡ None
+pub no-fault : (lines : List CostLine) → None ≡ lineFault lines → false ≡ jumps lines → None ≡ linesFault lines
 no-fault lines e j = by-parts lines None false e j

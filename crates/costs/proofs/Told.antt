@@ -57,10 +57,9 @@ priced j i e =
 pub held-less : (lines : List CostLine) (j i a b : ℕ) → unpriced j i ≡ false → a ≡ heldBefore lines i → b ≡ heldBefore lines j → b ≤ a
 held-less lines j i a b e p q = let h = priced j i e in omega (arith, held-between lines j i (h .0) (h .1))
 
-pub price-told :
-    (lines : List CostLine) (j i u a b : ℕ) → unpriced j i ≡ false → u ≡ lineAt lines j .unit → a ≡ heldBefore lines i → b ≡ heldBefore lines j
-    → Some (u + (a - b)) ≡ priceTold (datedPrice lines) j i
-price-told lines j i u a b e r p q =
-    let h = priced j i e in
-    let w : u + (a - b) ≡ datedPrice lines j i = omega (arith, held-between lines j i (h .0) (h .1)) in
-    ap Some w ∙ sym (cond-false (unpriced j i) None (Some (datedPrice lines j i)) e)
+-- the price in the sums that are kept
+pub price-by-sums : (lines : List CostLine) (j i : ℕ) → unpriced j i ≡ false → datedPrice lines j i ≡ lineAt lines j .unit + (heldBefore lines i - heldBefore lines j)
+price-by-sums lines j i e = let h = priced j i e in omega (arith, held-between lines j i (h .0) (h .1))
+
+pub price-told : (lines : List CostLine) (j i v : ℕ) → unpriced j i ≡ false → v ≡ datedPrice lines j i → Some v ≡ priceTold (datedPrice lines) j i
+price-told lines j i v e w = ap Some w ∙ sym (cond-false (unpriced j i) None (Some (datedPrice lines j i)) e)

@@ -43,9 +43,9 @@ lots-pushed was more ls i z y ws h v e q m =
     ∙ ap (λ xs. wordsBytes (joined lotWords xs)) (sym one)
 
 pub file-ended :
-    (was more : List ℕ) (ls : List Lot) (ws : List Word) → was ≡ lotsBytes ls → pairs ws ≡ endWords (length ls) → more ≡ was ++ wordsBytes (pairs ws)
+    (was more : List ℕ) (ls : List Lot) (ws : List Word) (count : ℕ) → was ≡ lotsBytes ls → pairs ws ≡ endWords count → count ≡ length ls → more ≡ was ++ wordsBytes (pairs ws)
     → more ≡ fileBytes (map terms ls)
 unfolding fileBytes
-file-ended was more ls ws v q m =
-    m ∙ ap (λ xs. xs ++ wordsBytes (pairs ws)) v ∙ ap (λ xs. lotsBytes ls ++ wordsBytes xs) (q ∙ ap endWords (sym (length-map ls terms)))
+file-ended was more ls ws count v q n m =
+    m ∙ ap (λ xs. xs ++ wordsBytes (pairs ws)) v ∙ ap (λ xs. lotsBytes ls ++ wordsBytes xs) (q ∙ ap endWords (n ∙ sym (length-map ls terms)))
     ∙ sym (words-append (joined lotWords (map terms ls)) (endWords (length (map terms ls))))

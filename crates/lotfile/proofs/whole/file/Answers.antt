@@ -12,6 +12,6 @@ loop-lot-again c =
 pub returns : need.returns
 returns c = (
   omega arith,
-  file-ended _ _ (c .args .lots .now) (c .end-word .result) (c .loop-lot .inv ∙ ap lotsBytes (take-all _ _ (c .loop-lot-test .left)))
-      (c .end-word .ensures) (c .in-Continue-push-words-2 .ensures tt),
+  file-ended _ _ (c .args .lots .now) (c .end-word .result) _ (c .loop-lot .inv ∙ ap lotsBytes (take-all _ _ (c .loop-lot-test .left)))
+      (c .end-word .ensures) (omega arith) (c .in-Continue-push-words-2 .ensures tt),
 )

@@ -6,5 +6,5 @@ use Rattle.costs.proofs.dated.DatedCostModel.setup.Needs as need
 
 pub returns : need.returns
 returns c =
-    setup-told (vec-items (c .args .self .now .lines)) (c .args .j) _ (omega arith)
-    (ap (λ x. x .setup) (line-told _ _ _ _ (none-of _ (c .args .self .now .right)) (c .in-force-line .ensures) (c .index .ensures)))
+    let line = line-told _ _ _ _ (none-of _ (c .args .self .now .right)) (c .in-force-line .ensures) (c .index .ensures) in
+    setup-told (vec-items (c .args .self .now .lines)) (c .args .j) _ (omega arith) (omega (arith, ap (λ x. x .setup) line))

@@ -34,4 +34,4 @@ pub add-result : need.add-result
 add-result c = omega (arith, told c, few c)
 
 pub returns : need.returns
-returns c = told c
+returns c = omega (arith, told c)

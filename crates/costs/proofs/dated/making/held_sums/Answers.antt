@@ -5,6 +5,7 @@ use native.Mathlib.Omega.{arith}
 use borrow.Author.Needs.{needs}
 use lib.ListN.{getD}
 use Rattle.std.proofs.shelf.Lists.{take-all}
+use Rattle.std.specs.Of.Vec.{vec-items}
 use Rattle.costs.specs.declared.line.CostLine.{CostLine}
 use Rattle.costs.specs.Dated.{noLine, heldBefore}
 use Rattle.costs.proofs.InForce.{first-dated, dated-from-1}
@@ -47,7 +48,7 @@ loop-line-again c =
     let i : ℕ = c .loop-line .line-index in
     let n = held-next lines i (c .loop-line .before) _ _ (c .pre) (c .loop-line-test .taken) (c .loop-line .inv .1) (c .loop-line .inv .2) (c .from .ensures) in
     let same : i ≡ i + 1 - 1 = omega arith in
-    (summed-more lines _ _ i _ (c .loop-line-test .taken) (c .loop-line .inv .0) (c .in-Continue-push .ensures tt .items) n, ap (λ k. getD lines k noLine) same, n)
+    (summed-more lines (vec-items (c .loop-line .held)) (vec-items (c .push .last .self)) i _ (c .loop-line-test .taken) (c .loop-line .inv .0) (c .in-Continue-push .ensures tt .items) (omega (arith, n)), ap (λ k. getD lines k noLine) same, omega (arith, n))
 
 pub returns : need.returns
 returns c = c .loop-line .inv .0 ∙ ap (map (λ x. heldBefore (c .args .lines .now) (x .date))) (take-all _ _ (c .loop-line-test .left))
