@@ -1,1 +1,6 @@
-pub mod Told
+pub mod Answered
+mod Jumps
+mod Refusing
+mod InForce
+mod Held
+mod Told

@@ -7,7 +7,7 @@ use native.Mathlib.Omega.{arith}
 use lib.ListN.{length, getD, take, drop}
 use lib.Seq.{take-all, take-append-le}
 use Rattle.std.specs.Of.Vec.{vec-items}
-use Rattle.costs.proofs.Told.{charge-told, price-told}
+use Rattle.costs.proofs.Answered.{charge-told, price-told}
 use Rattle.planner.specs.Describing.{Window, windowOf, rowAfter, reading, own, live-from, Grown}
 use Rattle.planner.specs.Windows.{window}
 use Rattle.planner.proofs.Soundness.{least-fits, demanded-fits, last-fits, base-inside, options-fit, sound-grown}

@@ -3,7 +3,7 @@ use Prim.Native.Nat.{ℕ, suc, _+_, _-_, _*_, _≤_}
 use native.Mathlib.Nat.{mul-le-mul}
 use native.Mathlib.Omega.{arith}
 use lib.ListN.{length, getD}
-use Rattle.costs.proofs.Told.{price-told}
+use Rattle.costs.proofs.Answered.{price-told}
 use Rattle.planner.proofs.Choosing.{walk-begins, walk-cheaper, walk-dearer, walk-ends}
 use Rattle.planner.proofs.rows.options.raise.Given as given
 use Rattle.planner.proofs.rows.options.raise.Needs as need
