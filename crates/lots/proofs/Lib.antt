@@ -1,1 +1,2 @@
 pub mod Decimals
+mod ReadBack
