@@ -1,4 +1,5 @@
 pub mod Faults
 pub mod Feeding
 pub mod Text
+pub mod Forecasts
 pub mod Lines
