@@ -136,4 +136,3 @@ pub went-on : (place handed : ℕ) (text : List ℕ) (l : Line) → Ok (Some l) 
 went-on place handed text l e =
     opened place handed (drop place text) (Ok (Some l)) e
     ∙ ap (λ bs. preceded (l .demand) (forecast (place + l .length) (handed + 1) bs)) (drop-drop (l .length) place text)
-

@@ -2,11 +2,14 @@
 pub mod fault;
 pub mod feed;
 mod line;
+pub mod orders;
+mod period;
 pub mod text;
 
 pub use fault::FeedFault;
 pub use fault::RecordFault;
 pub use feed::Feed;
+pub use orders::OrderFeed;
 pub use text::TextFeed;
 
 #[cfg(test)]
