@@ -1,3 +1,4 @@
 pub mod Forecasts
 pub mod Orderly
+pub mod Supplies
 pub mod Texts

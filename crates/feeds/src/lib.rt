@@ -4,12 +4,16 @@ pub mod feed;
 mod line;
 pub mod orders;
 mod period;
+pub mod receipt;
+mod supply;
 pub mod text;
 
 pub use fault::FeedFault;
 pub use fault::RecordFault;
 pub use feed::Feed;
 pub use orders::OrderFeed;
+pub use receipt::Receipt;
+pub use receipt::ReceiptFault;
 pub use text::TextFeed;
 
 #[cfg(test)]
