@@ -1,6 +1,7 @@
 pub mod Faults
 pub mod Feeding
 pub mod Netting
+pub mod NettingMade
 pub mod Orders
 pub mod Periods
 pub mod Receipts

@@ -8,7 +8,10 @@ use Rattle.std.specs.declared.option.Option.the-variants.{Some, None}
 use Rattle.lots.specs.declared.dated.DatedFault.{DatedFault}
 use Rattle.lots.specs.declared.dated.FirstDate.the-variants.{AtLeast}
 use Rattle.lots.specs.Dated.{datedFault, datedNumber}
+use Rattle.std.specs.Options.{mapped}
 use Rattle.theory.specs.Netting as theory
+use Rattle.feeds.specs.declared.making.NettingFault.{NettingFault}
+use Rattle.feeds.specs.declared.making.NettingFault.the-variants.{Stock, Receipts}
 use Rattle.feeds.specs.declared.receipt.Receipt.{Receipt}
 use Rattle.feeds.specs.declared.receipt.ReceiptFault.{ReceiptFault}
 use Rattle.feeds.specs.declared.receipt.ReceiptFault.the-variants.{TooMuch}
@@ -39,3 +42,12 @@ netted rs i stock [] = []
 netted rs i stock (d ∷ ds) =
     let available : ℕ = stock + theory.received rs i in
     (d - available) ∷ netted rs (i + 1) (available - d) ds
+
+-- why a layer cannot be made: its stock, else its receipts
+abbrev pub supplyFault : ℕ → List Receipt → Option NettingFault
+supplyFault stock xs = cond (ltb 1000000000 stock) (Some Stock) (mapped Receipts (receiptsFault xs))
+
+-- the number of each refusal
+abbrev pub nettingNumber : NettingFault → ℕ
+nettingNumber Stock = 8
+nettingNumber (Receipts f) = datedNumber receiptNumber f

@@ -1,12 +1,24 @@
 ghost use mathlib.Core.List.{List, _∷_};
 ghost use mathlib.Core.Path.{_≡_};
 ghost use Prim.Native.Nat.{ℕ, _+_, _*_, _≤_};
+ghost use Rattle.std.specs.Of.Vec.{vec-items};
+ghost use Rattle.std.specs.declared.option.Option.the-variants.{None};
+ghost use Rattle.feeds.specs.Receipts.{supplies, netted, supplyFault};
 ghost use Rattle.feeds.specs.Netting.{receivedNow, netOf, netWith, netAfter};
+use crate::receipt::Receipt;
 use crate::receipt::ReceiptDatedLine;
 use crate::supply::Supply;
 use lots::DatedLine;
 
 impl Supply {
+    // The supply before period 1.
+    pub(crate) fn new(stock: u64, receipts: Vec<Receipt>) -> Supply
+        requires { ⌜ supplyFault stock (vec-items receipts) ≡ None ⌝ }
+        ensures { λ r. ⌜ ((ds : List ℕ) → netOf r ds ≡ netted (supplies (vec-items receipts)) 1 stock ds) ⌝ }
+    {
+        Supply { stock, receipts, due: 0, period: 1 }
+    }
+
     // What comes in the period that is due, which is then over.
     fn receive(&mut self) -> u64
         ensures told { λ r. ⌜ r ≡ receivedNow (now (self .entry)) ⌝ }
