@@ -1,9 +1,15 @@
 use crate::fault::FeedFaultDebug;
 use crate::feed::Feed;
+use crate::making::NettingRefusal;
+use crate::netting::Netting;
+use crate::netting::NettingIsFeed;
 use crate::orders::OrderFeed;
 use crate::orders::OrdersAreFeed;
+use crate::receipt::Receipt;
 use crate::text::TextFeed;
 use crate::text::TextIsFeed;
+use lots::Refusal;
+use std::alloc::Global;
 use std::test::*;
 
 // The second call tells what the first told, and each tells the fault of this number at this place and period.
@@ -100,4 +106,70 @@ fn a_period_is_handed_out_before_its_follower_is_checked() -> Result<(), Fail> {
     let mut feed = OrderFeed::new(b"\x80\0\0\x01\0\0\0\x07\x80\0\0\x03");
     check_eq(feed.next()?, Some(7))?;
     fails(feed, 10, 8, 2)
+}
+
+fn layer<F: Drop>(heap: Global, feed: F, stock: u64, receipts: &[Receipt]) -> Result<Netting<F>, Fail> {
+    let receipts = Vec::from_slice(heap, receipts)?;
+    let Ok(net) = Netting::new(feed, stock, receipts) else {
+        return Err(Fail::new("refused"));
+    };
+    Ok(net)
+}
+
+#[test]
+fn stock_and_receipts_are_spent(rt: LibcRuntime) -> Result<(), Fail> {
+    let heap = rt.alloc();
+    let gross = b"1,3\n2,4\n3,1\n4,0\n5,9\nend\n";
+    let mut stocked = layer(heap, TextFeed::new(gross), 5, &[])?;
+    for demand in [0, 2, 1, 0, 9] {
+        check_eq(stocked.next()?, Some(demand))?;
+    }
+    check_eq(stocked.next()?, None)?;
+    // One receipt comes where nothing is asked, and one after the last period.
+    let receipts = [Receipt { period: 2, amount: 4 }, Receipt { period: 4, amount: 7 }, Receipt { period: 6, amount: 1 }];
+    let mut supplied = layer(heap, TextFeed::new(gross), 0, &receipts)?;
+    for demand in [3, 0, 1, 0, 2] {
+        check_eq(supplied.next()?, Some(demand))?;
+    }
+    check_eq(supplied.next()?, None)
+}
+
+#[test]
+fn layers_stack(rt: LibcRuntime) -> Result<(), Fail> {
+    let heap = rt.alloc();
+    let lowest = layer(heap, TextFeed::new(b"1,9\n2,9\n"), 2, &[])?;
+    let middle = layer(heap, lowest, 3, &[Receipt { period: 2, amount: 1 }])?;
+    let mut top = layer(heap, middle, 1_000_000_000, &[])?;
+    check_eq(top.next()?, Some(0))?;
+    check_eq(top.next()?, Some(0))?;
+    let Err(fault) = top.next() else {
+        return Err(Fail::new("no fault"));
+    };
+    check_eq(fault.number(), 12)?;
+    check_eq(fault.place(), 8)?;
+    check_eq(fault.period(), 3)?;
+    check_eq(fault.layers(), 3)?;
+    check_eq(top.place(), 8)
+}
+
+// The number by which this stock and these receipts are refused; the feed comes back and still hands out its demand.
+fn refusal(heap: Global, stock: u64, receipts: &[Receipt]) -> Result<u32, Fail> {
+    let receipts = Vec::from_slice(heap, receipts)?;
+    let Err(mut refused) = Netting::new(TextFeed::new(b"1,7\nend\n"), stock, receipts) else {
+        return Err(Fail::new("made"));
+    };
+    check_eq(refused.feed.next()?, Some(7))?;
+    Ok(refused.fault.number())
+}
+
+#[test]
+fn netting_refuses(rt: LibcRuntime) -> Result<(), Fail> {
+    let heap = rt.alloc();
+    let late = Receipt { period: 2, amount: 1 };
+    let large = Receipt { period: 1, amount: 1_000_000_001 };
+    check_eq(refusal(heap, 1_000_000_001, &[late, large])?, 8)?;
+    check_eq(refusal(heap, 0, &[late; 33])?, 4)?;
+    check_eq(refusal(heap, 0, &[late, large])?, 5)?;
+    check_eq(refusal(heap, 0, &[Receipt { period: 0, amount: 1 }])?, 5)?;
+    check_eq(refusal(heap, 0, &[large, late])?, 7)
 }
