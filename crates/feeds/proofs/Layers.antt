@@ -22,8 +22,8 @@ use Rattle.lots.specs.Dated.{risesAfter, datesRight, firstEarned, datedFault}
 use Rattle.theory.specs.Endings.{Ending, Finished, Faulty}
 use Rattle.theory.specs.Netting as theory
 use Rattle.feeds.specs.declared.fault.FeedFault.{FeedFault}
-use Rattle.feeds.specs.declared.making.NettingFault.{NettingFault}
-use Rattle.feeds.specs.declared.making.NettingFault.the-variants.{Stock, Receipts}
+use Rattle.feeds.specs.declared.netting.fault.NettingFault.{NettingFault}
+use Rattle.feeds.specs.declared.netting.fault.NettingFault.the-variants.{Stock, Receipts}
 use Rattle.feeds.specs.declared.receipt.Receipt.{Receipt}
 use Rattle.feeds.specs.declared.receipt.ReceiptFault.{ReceiptFault}
 use Rattle.feeds.specs.declared.receipt.ReceiptFault.the-variants.{TooMuch}
@@ -86,6 +86,7 @@ receipts-right xs e = count (ltb (length xs) 0 || ltb 32 (length xs)) refl
     dates : (t : Bool) → datesRight (λ x. x .period) (AtLeast 1) xs ≡ t → cond t (mapped Line (firstEarned receiptFault xs)) (Some Dates) ≡ None → comingFrom 1 xs ≡ true
     dates true h k = first-coming xs h (no-line (firstEarned receiptFault xs) k)
     dates false h k = absurd (some≢none Dates k)
+
     count : (t : Bool) → (ltb (length xs) 0 || ltb 32 (length xs)) ≡ t → (length xs ≤ 32) × (comingFrom 1 xs ≡ true)
     count true h = absurd (some≢none Count (sym (cond-true (ltb (length xs) 0 || ltb 32 (length xs)) _ _ h) ∙ e))
     count false h = (

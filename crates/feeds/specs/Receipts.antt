@@ -10,8 +10,8 @@ use Rattle.lots.specs.declared.dated.FirstDate.the-variants.{AtLeast}
 use Rattle.lots.specs.Dated.{datedFault, datedNumber}
 use Rattle.std.specs.Options.{mapped}
 use Rattle.theory.specs.Netting as theory
-use Rattle.feeds.specs.declared.making.NettingFault.{NettingFault}
-use Rattle.feeds.specs.declared.making.NettingFault.the-variants.{Stock, Receipts}
+use Rattle.feeds.specs.declared.netting.fault.NettingFault.{NettingFault}
+use Rattle.feeds.specs.declared.netting.fault.NettingFault.the-variants.{Stock, Receipts}
 use Rattle.feeds.specs.declared.receipt.Receipt.{Receipt}
 use Rattle.feeds.specs.declared.receipt.ReceiptFault.{ReceiptFault}
 use Rattle.feeds.specs.declared.receipt.ReceiptFault.the-variants.{TooMuch}

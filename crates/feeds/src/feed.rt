@@ -8,6 +8,9 @@ ghost use Rattle.feeds.specs.declared.fault.FeedFault.{FeedFault};
 ghost use Rattle.feeds.specs.Feeding.{nextTold, others, Small};
 use crate::fault::FeedFault;
 
+// No period asks for more.
+pub const LARGEST_DEMAND: u32 = 1_000_000;
+
 // What a feed means: the demands still to come, how they end, and the byte place it has come to.
 pub trait Feed {
     ghost demands: { Self → List ℕ };

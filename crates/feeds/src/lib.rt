@@ -2,7 +2,6 @@
 pub mod fault;
 pub mod feed;
 mod line;
-pub mod making;
 pub mod netting;
 pub mod orders;
 mod period;
@@ -13,8 +12,8 @@ pub mod text;
 pub use fault::FeedFault;
 pub use fault::RecordFault;
 pub use feed::Feed;
-pub use making::NettingFault;
 pub use netting::Netting;
+pub use netting::fault::NettingFault;
 pub use netting::making::NettingRefused;
 pub use orders::OrderFeed;
 pub use receipt::Receipt;

@@ -7,6 +7,7 @@ use crate::fault::FeedFault;
 use crate::feed::Feed;
 use crate::supply::Supply;
 
+pub mod fault;
 pub mod making;
 
 #[derive(Drop)]
@@ -26,7 +27,10 @@ impl From<Below> for FeedFault as FeedFaultFromBelow {
 
     fn from(below: Below) -> FeedFault {
         let FeedFault::Record { fault, layers } = below.fault;
-        FeedFault::Record { fault, layers: layers.saturating_add(1) }
+        FeedFault::Record {
+            fault,
+            layers: layers.saturating_add(1),
+        }
     }
 }
 

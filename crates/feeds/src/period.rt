@@ -2,12 +2,12 @@
 ghost use mathlib.Core.Path.{_≡_};
 ghost use Prim.Native.Nat.{_+_, _≤_, _<_};
 ghost use lib.ListN.{length};
-ghost use Rattle.std.specs.Results.{Cases};
 ghost use Rattle.std.specs.Slices.{found};
 ghost use Rattle.std.specs.Vec.{made};
-ghost use Rattle.lots.specs.Words.{wordKind, wordNumber};
-ghost use Rattle.feeds.specs.Orders.{cutAt, counted, opens, periodAt};
+ghost use Rattle.feeds.specs.Orders.{counted, opens, periodAt};
+ghost use Rattle.feeds.specs.Periods.{WordTold};
 use crate::fault::RecordFault;
+use crate::feed::LARGEST_DEMAND;
 use lots::word::Word;
 use lots::word::WordKind;
 
@@ -21,7 +21,7 @@ pub struct Period {
 // The word at the front of what is left from this place on.
 pub(crate) fn word_due(rest: &[u8], place: usize, handed: u32) -> Result<Word, RecordFault>
     requires { ⌜ handed < 1073741824 ⌝ }
-    ensures { λ r. ⌜ Cases r (λ w. (4 ≤ length (now (rest .entry))) × (w .kind ≡ wordKind (now (rest .entry))) × (w .number ≡ wordNumber (now (rest .entry)))) (λ f. (length (now (rest .entry)) < 4) × (f ≡ cutAt place handed (now (rest .entry)))) ⌝ }
+    ensures { λ r. ⌜ WordTold place handed (now (rest .entry)) r ⌝ }
 {
     let period = handed + 1;
     match rest {
@@ -44,7 +44,7 @@ pub(crate) fn count(
 {
     let period = handed + 1;
     match word.kind {
-        WordKind::Zero if word.number > 1_000_000 - sum => Err(RecordFault::DemandTooLarge {
+        WordKind::Zero if word.number > LARGEST_DEMAND - sum => Err(RecordFault::DemandTooLarge {
             place,
             period,
         }),

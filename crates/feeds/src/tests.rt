@@ -1,8 +1,8 @@
 use crate::fault::FeedFaultDebug;
 use crate::feed::Feed;
-use crate::making::NettingRefusal;
 use crate::netting::Netting;
 use crate::netting::NettingIsFeed;
+use crate::netting::fault::NettingRefusal;
 use crate::orders::OrderFeed;
 use crate::orders::OrdersAreFeed;
 use crate::receipt::Receipt;
@@ -108,7 +108,12 @@ fn a_period_is_handed_out_before_its_follower_is_checked() -> Result<(), Fail> {
     fails(feed, 10, 8, 2)
 }
 
-fn layer<F: Drop>(heap: Global, feed: F, stock: u64, receipts: &[Receipt]) -> Result<Netting<F>, Fail> {
+fn layer<F: Drop>(
+    heap: Global,
+    feed: F,
+    stock: u64,
+    receipts: &[Receipt],
+) -> Result<Netting<F>, Fail> {
     let receipts = Vec::from_slice(heap, receipts)?;
     let Ok(net) = Netting::new(feed, stock, receipts) else {
         return Err(Fail::new("refused"));
@@ -126,7 +131,20 @@ fn stock_and_receipts_are_spent(rt: LibcRuntime) -> Result<(), Fail> {
     }
     check_eq(stocked.next()?, None)?;
     // One receipt comes where nothing is asked, and one after the last period.
-    let receipts = [Receipt { period: 2, amount: 4 }, Receipt { period: 4, amount: 7 }, Receipt { period: 6, amount: 1 }];
+    let receipts = [
+        Receipt {
+            period: 2,
+            amount: 4,
+        },
+        Receipt {
+            period: 4,
+            amount: 7,
+        },
+        Receipt {
+            period: 6,
+            amount: 1,
+        },
+    ];
     let mut supplied = layer(heap, TextFeed::new(gross), 0, &receipts)?;
     for demand in [3, 0, 1, 0, 2] {
         check_eq(supplied.next()?, Some(demand))?;
@@ -138,7 +156,15 @@ fn stock_and_receipts_are_spent(rt: LibcRuntime) -> Result<(), Fail> {
 fn layers_stack(rt: LibcRuntime) -> Result<(), Fail> {
     let heap = rt.alloc();
     let lowest = layer(heap, TextFeed::new(b"1,9\n2,9\n"), 2, &[])?;
-    let middle = layer(heap, lowest, 3, &[Receipt { period: 2, amount: 1 }])?;
+    let middle = layer(
+        heap,
+        lowest,
+        3,
+        &[Receipt {
+            period: 2,
+            amount: 1,
+        }],
+    )?;
     let mut top = layer(heap, middle, 1_000_000_000, &[])?;
     check_eq(top.next()?, Some(0))?;
     check_eq(top.next()?, Some(0))?;
@@ -165,11 +191,27 @@ fn refusal(heap: Global, stock: u64, receipts: &[Receipt]) -> Result<u32, Fail> 
 #[test]
 fn netting_refuses(rt: LibcRuntime) -> Result<(), Fail> {
     let heap = rt.alloc();
-    let late = Receipt { period: 2, amount: 1 };
-    let large = Receipt { period: 1, amount: 1_000_000_001 };
+    let late = Receipt {
+        period: 2,
+        amount: 1,
+    };
+    let large = Receipt {
+        period: 1,
+        amount: 1_000_000_001,
+    };
     check_eq(refusal(heap, 1_000_000_001, &[late, large])?, 8)?;
     check_eq(refusal(heap, 0, &[late; 33])?, 4)?;
     check_eq(refusal(heap, 0, &[late, large])?, 5)?;
-    check_eq(refusal(heap, 0, &[Receipt { period: 0, amount: 1 }])?, 5)?;
+    check_eq(
+        refusal(
+            heap,
+            0,
+            &[Receipt {
+                period: 0,
+                amount: 1,
+            }],
+        )?,
+        5,
+    )?;
     check_eq(refusal(heap, 0, &[large, late])?, 7)
 }

@@ -1,7 +1,7 @@
 ghost use Rattle.feeds.specs.NettingMade.{Made};
-use crate::making::NettingFault;
-use crate::making::check_supply;
 use crate::netting::Netting;
+use crate::netting::fault::NettingFault;
+use crate::netting::fault::check_supply;
 use crate::receipt::Receipt;
 use crate::supply::Supply;
 
@@ -19,8 +19,15 @@ impl<F> Netting<F> {
         ensures { λ r. ⌜ Made feed stock receipts r ⌝ }
     {
         if let Err(fault) = check_supply(stock, receipts.as_slice()) {
-            return Err(NettingRefused { fault, feed, receipts });
+            return Err(NettingRefused {
+                fault,
+                feed,
+                receipts,
+            });
         }
-        Ok(Netting { feed, supply: Supply::new(stock, receipts) })
+        Ok(Netting {
+            feed,
+            supply: Supply::new(stock, receipts),
+        })
     }
 }

@@ -16,7 +16,12 @@ impl Supply {
         requires { ⌜ supplyFault stock (vec-items receipts) ≡ None ⌝ }
         ensures { λ r. ⌜ ((ds : List ℕ) → netOf r ds ≡ netted (supplies (vec-items receipts)) 1 stock ds) ⌝ }
     {
-        Supply { stock, receipts, due: 0, period: 1 }
+        Supply {
+            stock,
+            receipts,
+            due: 0,
+            period: 1,
+        }
     }
 
     // What comes in the period that is due, which is then over.

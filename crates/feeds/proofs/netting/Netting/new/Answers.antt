@@ -7,8 +7,7 @@ use Rattle.feeds.proofs.netting.Netting.new.Needs as need
 
 pub returns : need.returns
 returns g c =
-    let right : supplyFault (c .args .stock) (vec-items (c .args .receipts)) ≡ None = ap (supplyFault (c .args .stock)) (sym (c .as-slice .ensures .value)) ∙ sym (c .in-rest .ensures tt) in
-    (
+    let right : supplyFault (c .args .stock) (vec-items (c .args .receipts)) ≡ None = ap (supplyFault (c .args .stock)) (sym (c .as-slice .ensures .value)) ∙ sym (c .in-rest .ensures tt) in (
       right,
       refl,
       record {

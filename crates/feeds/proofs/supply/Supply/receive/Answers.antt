@@ -46,8 +46,7 @@ pub ghost-self-2 : need.ghost-self-2
 ghost-self-2 c =
     let s = c .args .self .now in
     let at = need.at·ghost-self-2 c .After-from in
-    let left = some-left at in
-    (
+    let left = some-left at in (
       s .few,
       (
         omega (arith, s .receipts .ok .0),

@@ -2,7 +2,7 @@
 ghost use mathlib.Core.Path.{_≡_};
 ghost use Rattle.std.specs.Results.{errPart};
 ghost use Rattle.feeds.specs.Receipts.{supplyFault, nettingNumber};
-ghost use Rattle.feeds.specs.declared.making.NettingFault.the-variants.{Receipts};
+ghost use Rattle.feeds.specs.declared.netting.fault.NettingFault.the-variants.{Receipts};
 use crate::receipt::Receipt;
 use crate::receipt::ReceiptDatedLine;
 use crate::receipt::ReceiptFault;
