@@ -1,4 +1,4 @@
-// What can be wrong with a feed. A record reader's fault lies whole inside the feed's fault.
+// What can be wrong with a feed. Its fault keeps that of the record that was read, as it was found.
 ghost use mathlib.Core.Path.{_≡_};
 ghost use Rattle.feeds.specs.Faults.{recordNumber, recordPlace, recordPeriod, faultNumber, faultPlace, faultPeriod, faultLayers};
 ghost use Rattle.feeds.specs.declared.fault.FeedFault.the-variants.{Record};

@@ -19,7 +19,7 @@ pub trait Feed {
 
     ghost reached: { Self → ℕ };
 
-    // Hands out the first demand and leaves the others; where there is none, tells the ending and leaves everything.
+    // Tells the first demand and keeps those behind it; where none is left, tells how they end and changes nothing.
     fn next(&mut self) -> Result<Option<u32>, FeedFault>
         ensures told { λ r. ⌜ r ≡ nextTold (demands (now (self .entry))) (ending (now (self .entry))) ⌝ }
         ensures others { λ _. ⌜ demands (now (self .exit)) ≡ others (demands (now (self .entry))) ⌝ }

@@ -1,4 +1,5 @@
 // Feeds hand out the demand of one period after another.
+pub mod examples;
 pub mod fault;
 pub mod feed;
 mod line;
