@@ -8,6 +8,9 @@ ghost use Rattle.feeds.specs.declared.fault.FeedFault.{FeedFault};
 ghost use Rattle.feeds.specs.Feeding.{nextTold, others, Small};
 use crate::fault::FeedFault;
 
+// No period asks for more.
+pub const LARGEST_DEMAND: u32 = 1_000_000;
+
 // What a feed means: the demands still to come, how they end, and the byte place it has come to.
 pub trait Feed {
     ghost demands: { Self → List ℕ };
@@ -16,7 +19,7 @@ pub trait Feed {
 
     ghost reached: { Self → ℕ };
 
-    // Hands out the first demand and leaves the others; where there is none, tells the ending and leaves everything.
+    // Tells the first demand and keeps those behind it; where none is left, tells how they end and changes nothing.
     fn next(&mut self) -> Result<Option<u32>, FeedFault>
         ensures told { λ r. ⌜ r ≡ nextTold (demands (now (self .entry))) (ending (now (self .entry))) ⌝ }
         ensures others { λ _. ⌜ demands (now (self .exit)) ≡ others (demands (now (self .entry))) ⌝ }

@@ -11,6 +11,7 @@ use crate::fault::FeedFault;
 use crate::fault::FeedFaultFromRecord;
 use crate::fault::RecordFault;
 use crate::feed::Feed;
+use crate::feed::LARGEST_DEMAND;
 use crate::line::Front;
 use crate::line::Line;
 use crate::line::line_at;
@@ -61,7 +62,7 @@ impl<'a> TextFeed<'a> {
                 if line.period != period {
                     return Err(RecordFault::WrongPeriod { place, period });
                 }
-                if line.demand > 1_000_000 {
+                if line.demand > LARGEST_DEMAND {
                     return Err(RecordFault::DemandTooLarge { place, period });
                 }
                 Ok(Some(line))
