@@ -1,24 +1,22 @@
 -- What holds of every netting layer: which are made, what they net, and what they tell.
-use mathlib.Core.Bool.{Bool, true, false, cond, _&&_, _||_}
+use mathlib.Core.Bool.{Bool, true, false, cond, _||_}
 use mathlib.Core.List.{List, [], _∷_, _++_, append-assoc, append-nil}
-use mathlib.Core.Logic.{_⊎_, inl, inr, ⊎-elim}
 use mathlib.Core.Path.{_≡_, refl, sym, ap, subst, _∙_}
-use Prim.Native.Nat.{ℕ, zero, suc, _+_, _-_, _<_, _≤_}
+use Prim.Native.Nat.{ℕ, zero, suc, _+_, _-_, _≤_}
 use native.Mathlib.Numerals.{add-one}
 use native.Mathlib.Omega.{arith}
-use lib.Dec.{eqb, leb, ltb}
+use lib.Dec.{leb, ltb}
 use lib.ListN.{length, getD, drop}
 use lib.Seq.{drop-cons, drop-length}
 use Rattle.std.specs.Options.{mapped, orOther}
 use Rattle.std.specs.declared.option.Option.{Option}
 use Rattle.std.specs.declared.option.Option.the-variants.{Some, None}
-use Rattle.std.specs.declared.result.Result.{Result}
 use Rattle.std.specs.declared.result.Result.the-variants.{Ok, Err}
-use Rattle.std.proofs.shelf.Tests.{cond-true, cond-false, and-parts, and-from, or-parts, ltb-true, ltb-false, leb-true, le-leb}
+use Rattle.std.proofs.shelf.Tests.{cond-true, cond-false, and-parts, and-from, or-parts, ltb-true, ltb-false, le-leb}
 use Rattle.lots.specs.declared.dated.DatedFault.{DatedFault}
 use Rattle.lots.specs.declared.dated.DatedFault.the-variants.{Count, Dates, Line}
 use Rattle.lots.specs.declared.dated.FirstDate.the-variants.{AtLeast}
-use Rattle.lots.specs.Dated.{risesAfter, datesRight, firstEarned, datedFault}
+use Rattle.lots.specs.Dated.{risesAfter, datesRight, firstEarned}
 use Rattle.theory.specs.Endings.{Ending, Finished, Faulty}
 use Rattle.theory.specs.Netting as theory
 use Rattle.feeds.specs.declared.fault.FeedFault.{FeedFault}
@@ -27,7 +25,7 @@ use Rattle.feeds.specs.declared.netting.fault.NettingFault.the-variants.{Stock
 use Rattle.feeds.specs.declared.receipt.Receipt.{Receipt}
 use Rattle.feeds.specs.declared.receipt.ReceiptFault.{ReceiptFault}
 use Rattle.feeds.specs.declared.receipt.ReceiptFault.the-variants.{TooMuch}
-use Rattle.feeds.specs.Feeding.{endTold, nextTold, others, Small}
+use Rattle.feeds.specs.Feeding.{nextTold, others, Small}
 use Rattle.feeds.specs.Netting.{risen, above}
 use Rattle.feeds.specs.Receipts.{receiptFault, receiptsFault, comingFrom, supplies, netted, supplyFault}
 use Rattle.feeds.proofs.Supplies.{comes}

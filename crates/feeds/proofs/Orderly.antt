@@ -1,7 +1,6 @@
 -- What holds of every period and forecast of order words, whatever the bytes.
 use mathlib.Core.Bool.{Bool, true, false, cond}
-use mathlib.Core.List.{List, [], _∷_}
-use mathlib.Core.Logic.{_⊎_, inl, inr, ⊎-elim}
+use mathlib.Core.List.{List}
 use mathlib.Core.Path.{_≡_, refl, sym, ap, subst, _∙_}
 use Prim.Native.Nat.{ℕ, zero, suc, _+_, _-_, _<_, _≤_}
 use native.Mathlib.Omega.{arith}
@@ -13,7 +12,7 @@ use Rattle.std.specs.declared.option.Option.{Option}
 use Rattle.std.specs.declared.option.Option.the-variants.{Some, None}
 use Rattle.std.specs.declared.result.Result.{Result}
 use Rattle.std.specs.declared.result.Result.the-variants.{Ok, Err}
-use Rattle.std.proofs.shelf.Lists.{take-rest, drop-all}
+use Rattle.std.proofs.shelf.Lists.{take-rest}
 use Rattle.std.proofs.shelf.Tests.{cond-true, cond-false, cond-both, lt-ltb, le-ltb, ltb-false, leb-true, eqb-true, eq-eqb, false≢true}
 use Rattle.lots.specs.declared.word.WordKind.{WordKind}
 use Rattle.lots.specs.declared.word.WordKind.the-variants.{Zero, One, Two, Three}
@@ -23,10 +22,10 @@ use Rattle.feeds.specs.declared.fault.RecordFault.the-variants.{NothingLeft}
 use Rattle.feeds.specs.declared.period.Period.{Period}
 use Rattle.feeds.specs.Faults.{periodRead}
 use Rattle.feeds.specs.Feeding.{Small}
-use Rattle.feeds.specs.Forecasts.{Forecast, goesOn}
+use Rattle.feeds.specs.Forecasts.{goesOn}
 use Rattle.feeds.specs.Periods.{PeriodFits}
 use Rattle.feeds.specs.Orders.{cutAt, counted, opens, summed, periodIn, periodAt, some, begun, orderAt, ordersIn, orders}
-use Rattle.feeds.proofs.Forecasts.{preceded, same-rest, small-on}
+use Rattle.feeds.proofs.Forecasts.{same-rest, small-on}
 
 -- two periods that go on alike with the sum that was counted, if one was
 same-sum : (place sum : ℕ) (r : Result (Option ℕ) RecordFault) (f g : ℕ → Result Period RecordFault)

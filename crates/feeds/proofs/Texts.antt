@@ -1,20 +1,18 @@
 -- What holds of every line, record and forecast of a text, whatever its bytes.
-use mathlib.Core.Bool.{Bool, true, false, cond, _&&_}
 use mathlib.Core.List.{List, [], _∷_}
 use mathlib.Core.Path.{_≡_, refl, sym, ap, subst, _∙_}
-use Prim.Native.Nat.{ℕ, zero, suc, min, _+_, _-_, _<_, _≤_}
+use Prim.Native.Nat.{ℕ, zero, suc, _+_, _-_, _≤_}
 use native.Mathlib.Omega.{arith}
 use lib.Dec.{eqb, leb}
-use lib.ListN.{length, getD, take, drop, length-drop}
+use lib.ListN.{length, take, drop, length-drop}
 use Rattle.std.specs.Results.{Cases}
 use Rattle.std.specs.Slices.{found}
 use Rattle.std.specs.declared.option.Option.{Option}
 use Rattle.std.specs.declared.option.Option.the-variants.{Some, None}
 use Rattle.std.specs.declared.result.Result.{Result}
-use Rattle.std.specs.declared.result.Result.the-variants.{Ok, Err}
+use Rattle.std.specs.declared.result.Result.the-variants.{Ok}
 use Rattle.std.proofs.shelf.Lists.{take-rest, drop-drop}
-use Rattle.std.proofs.shelf.Tests.{cond-true, cond-false, cond-both, leb-true, eqb-true}
-use Rattle.std.proofs.shelf.Ways.{tells}
+use Rattle.std.proofs.shelf.Tests.{cond-both, leb-true, eqb-true}
 use Rattle.lots.specs.declared.decimal.Numeral.{Numeral}
 use Rattle.lots.specs.Decimals.{fieldAt, Bounded}
 use Rattle.lots.proofs.Decimals.{field-bounded}
@@ -25,8 +23,8 @@ use Rattle.feeds.specs.declared.line.Line.{Line}
 use Rattle.feeds.specs.Faults.{periodRead}
 use Rattle.feeds.specs.Feeding.{Small}
 use Rattle.feeds.specs.Lines.{LineFits, Follows}
-use Rattle.feeds.specs.Text.{lineOf, lineAfter, lineAt, endLine, frontOf, checked, recordOf, recordAt, forecastIn, forecast}
-use Rattle.feeds.specs.Forecasts.{Forecast, goesOn}
+use Rattle.feeds.specs.Text.{lineOf, lineAfter, lineAt, frontOf, checked, recordOf, recordAt, forecastIn, forecast}
+use Rattle.feeds.specs.Forecasts.{goesOn}
 use Rattle.feeds.proofs.Forecasts.{preceded, same-rest, small-on}
 
 line-fits : (bs : List ℕ) → found (lineAt bs) (LineFits bs)

@@ -5,7 +5,6 @@ use Prim.Native.Nat.{ℕ}
 use lib.Chars.{codes}
 use Rattle.theory.specs.Endings.{Finished}
 use Rattle.theory.specs.Netting as theory
-use Rattle.feeds.specs.Forecasts.{Forecast}
 use Rattle.feeds.specs.Orders.{orders}
 use Rattle.feeds.specs.Receipts.{netted}
 use Rattle.feeds.specs.Text.{forecast}

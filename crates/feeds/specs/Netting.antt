@@ -1,5 +1,5 @@
 -- What a supply and a netting layer mean.
-use mathlib.Core.List.{List, []}
+use mathlib.Core.List.{List}
 use Prim.Native.Nat.{ℕ, _+_, min}
 use lib.ListN.{drop}
 use Rattle.std.specs.Of.Vec.{vec-items}

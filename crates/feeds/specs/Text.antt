@@ -1,7 +1,7 @@
 -- The forecast that a text is: lines of a period and its demand, then the line `end`.
-use mathlib.Core.Bool.{Bool, true, false, cond, _&&_}
-use mathlib.Core.List.{List, [], _∷_}
-use Prim.Native.Nat.{ℕ, zero, suc, _+_, _<_, _≤_}
+use mathlib.Core.Bool.{Bool, cond, _&&_}
+use mathlib.Core.List.{List, []}
+use Prim.Native.Nat.{ℕ, zero, suc, _+_}
 use lib.Dec.{eqb, leb}
 use lib.ListN.{length, getD, drop}
 use Rattle.std.specs.declared.option.Option.{Option}
@@ -10,10 +10,9 @@ use Rattle.std.specs.declared.result.Result.{Result}
 use Rattle.std.specs.declared.result.Result.the-variants.{Ok, Err}
 use Rattle.lots.specs.declared.decimal.Numeral.{Numeral}
 use Rattle.lots.specs.Decimals.{fieldAt}
-use Rattle.theory.specs.Endings.{Ending, Finished, Faulty}
+use Rattle.theory.specs.Endings.{Faulty}
 use Rattle.feeds.specs.declared.fault.RecordFault.{RecordFault}
 use Rattle.feeds.specs.declared.fault.RecordFault.the-variants.{OtherLayout, WrongPeriod, DemandTooLarge, NothingLeft, BytesAfterEnd}
-use Rattle.feeds.specs.declared.fault.FeedFault.{FeedFault}
 use Rattle.feeds.specs.declared.fault.FeedFault.the-variants.{Record}
 use Rattle.feeds.specs.declared.line.Front.{Front}
 use Rattle.feeds.specs.declared.line.Front.the-variants.{Nothing, End, EndAndMore, Other}

@@ -1,5 +1,4 @@
-use mathlib.Core.Path.{_≡_, sym, ap, _∙_}
-use lib.ListN.{drop}
+use mathlib.Core.Path.{ap, _∙_}
 use Rattle.std.proofs.shelf.Lists.{take-rest}
 use Rattle.lots.specs.Decimals.{fieldAt}
 use Rattle.feeds.specs.Text.{lineOf, lineAfter, lineAt}

@@ -1,5 +1,4 @@
-use mathlib.Core.Path.{_≡_, sym, ap, _∙_}
-use native.Mathlib.Omega.{arith}
+use mathlib.Core.Path.{sym, ap, _∙_}
 use Rattle.std.proofs.shelf.Tests.{cond-true, cond-false, lt-ltb, le-ltb, eq-eqb, ne-eqb, and-from, and-left, and-right}
 use Rattle.lots.specs.Decimals.{fieldAt, stopped}
 use Rattle.lots.proofs.Decimals.{field-told}

@@ -1,6 +1,6 @@
 use mathlib.Core.Logic.{inl, inr, ⊎-elim}
 use mathlib.Core.List.{[]}
-use mathlib.Core.Path.{_≡_, sym, ap, subst, _∙_}
+use mathlib.Core.Path.{_≡_, sym, subst, _∙_}
 use Prim.Native.Nat.{_+_, _*_}
 use native.Mathlib.Omega.{arith}
 use lib.ListN.{drop, getD}

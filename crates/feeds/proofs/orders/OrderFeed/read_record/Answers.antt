@@ -1,8 +1,7 @@
-use mathlib.Core.Path.{_≡_, refl, sym, ap, _∙_}
+use mathlib.Core.Path.{sym, ap, _∙_}
 use Rattle.std.specs.declared.result.Result.the-variants.{Ok, Err}
-use Rattle.std.specs.declared.option.Option.the-variants.{Some}
 use Rattle.std.proofs.shelf.Results.{err-from-errBy}
-use Rattle.feeds.specs.Orders.{some, begun}
+use Rattle.feeds.specs.Orders.{some}
 use Rattle.feeds.proofs.Orderly.{order-told, order-cut, order-on}
 use Rattle.feeds.proofs.orders.OrderFeed.read_record.Needs as need
 

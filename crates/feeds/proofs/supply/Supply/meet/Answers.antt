@@ -1,8 +1,8 @@
 use mathlib.Core.List.{_∷_}
-use mathlib.Core.Path.{_≡_, refl, sym, ap, _∙_}
+use mathlib.Core.Path.{sym, ap, _∙_}
 use Prim.Native.Nat.{_+_, _-_}
 use native.Mathlib.Omega.{arith}
-use Rattle.feeds.specs.Netting.{netWith, netAfter}
+use Rattle.feeds.specs.Netting.{netAfter}
 use Rattle.feeds.specs.Receipts.{netted}
 use Rattle.feeds.proofs.supply.Supply.meet.Needs as need
 

@@ -1,9 +1,9 @@
 use mathlib.Core.List.{[]}
-use mathlib.Core.Path.{_≡_, refl, sym, ap, subst, _∙_}
-use Prim.Native.Nat.{_<_, _≤_}
+use mathlib.Core.Path.{_≡_, refl, sym}
+use Prim.Native.Nat.{_<_}
 use native.Mathlib.Omega.{arith}
 use lib.ListN.{length, drop}
-use Rattle.std.specs.Of.Vec.{vec-items, vec-len}
+use Rattle.std.specs.Of.Vec.{vec-items}
 use Rattle.std.proofs.shelf.Lists.{drop-all}
 use Rattle.feeds.proofs.Supplies.{nothing-left, net-left, due-comes, not-yet, still-coming, now-comes, others-coming, net-on}
 use Rattle.feeds.proofs.supply.Supply.receive.Needs as need
