@@ -1,0 +1,2 @@
+pub mod CostLines
+pub mod Writing

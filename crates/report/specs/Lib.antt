@@ -1,0 +1,3 @@
+pub mod CostLines
+pub mod Lines
+pub mod Refusals
