@@ -1,6 +1,6 @@
 -- A horizon's plan, read back from its rows.
-use mathlib.Core.Path.{_≡_, refl, ap, sym, subst, _∙_}
-use mathlib.Core.List.{List, [], _∷_, _++_}
+use mathlib.Core.Path.{_≡_, refl, ap, ap₂, sym, subst, _∙_}
+use mathlib.Core.List.{List, [], _∷_, _++_, map, append-assoc, append-nil}
 use mathlib.Core.Logic.{_⊎_, inl, inr, ∥∥₁-elim}
 use Prim.Native.Nat.{ℕ, zero, suc, _+_, _-_, _*_, _≤_, _<_}
 use native.Mathlib.Omega.{arith}
@@ -11,11 +11,12 @@ use Rattle.std.specs.declared.option.Option.{Option}
 use Rattle.std.specs.declared.option.Option.the-variants.{Some, None}
 use Rattle.std.proofs.shelf.Tests.{cases-lt}
 use Rattle.theory.specs.Recursion.{Case, Lawful, over, least, last, lot-cost, Lot, lot, plan}
-use Rattle.theory.specs.Regeneration.{next}
+use Rattle.theory.specs.Regeneration.{next, after, end-of}
 use Rattle.theory.proofs.Sums.{over-split}
 use Rattle.theory.proofs.Laws.{last-le, least-lot}
-use Rattle.theory.proofs.Plans.{plan-none, plan-ind, lot-filled}
-use Rattle.theory.proofs.Proving.{next-of-plan}
+use Rattle.theory.proofs.Plans.{plan-none, plan-ind, plan-ordered, lot-filled}
+use Rattle.theory.proofs.Proving.{next-of-plan, next-own, rest-by-lot, after-skip}
+use Rattle.lots.specs.Lots.{Terms}
 use Rattle.planner.specs.declared.rows.row.Span.{Span}
 use Rattle.planner.specs.Lots.{spanOf, Spans}
 use Rattle.planner.proofs.Soundness.{over-bound}
@@ -134,3 +135,49 @@ module _ (w : Window) (sound : ∥ Sound w ∥₁) (s : Span) (sp : Spans w (w .
 
   pub some-cost : rowAfter w (s .from - 1 - w .base) .least ≤ rowAfter w (s .through - w .base) .least
   some-cost = ∥∥₁-elim sound le-prop (λ x. omega (arith, span-cost (x .case) w (x .describes) s sp))
+
+-- a span that was found is that of the plan's next lot
+pub next-lot : (c : Case) (after n : ℕ) (s : Span) → Some s ≡ mapped spanOf (next after (plan c n)) →
+    (y : Lot) × (next after (plan c n) ≡ Some y) × (y ≡ lot c (s .from) (s .through)) × (y .through ≡ s .through)
+next-lot c after n s e = go (next after (plan c n)) refl
+  where
+    go : (x : Option Lot) → next after (plan c n) ≡ x → (y : Lot) × (next after (plan c n) ≡ Some y) × (y ≡ lot c (s .from) (s .through)) × (y .through ≡ s .through)
+    go None q =
+        let none : Some s ≡ None = e ∙ ap (mapped spanOf) q in
+        let z : _≡_ {A = ℕ} 0 1 = cc in
+        absurd (omega arith)
+    go (Some y) q =
+        let same : Some s ≡ Some (spanOf y) = e ∙ ap (mapped spanOf) q in
+        let is : s ≡ spanOf y = cc in
+        let from : y .from ≡ s .from = sym (ap (λ x. x .from) is) in
+        let through : y .through ≡ s .through = sym (ap (λ x. x .through) is) in
+        (y, q, next-own c after n y q .3 .is-lot ∙ ap₂ (lot c) from through, through)
+
+-- handing out the next lot leaves those after its end
+pub rest-step : (c : Case) (n a : ℕ) (s : Span) (hand : Lot → Terms) (done all : List Terms) (new : Terms) →
+    Some s ≡ mapped spanOf (next a (plan c n)) → new ≡ hand (lot c (s .from) (s .through)) →
+    done ++ map hand (after a (plan c n)) ≡ all → (done ++ (new ∷ [])) ++ map hand (after (s .through) (plan c n)) ≡ all
+rest-step c n a s hand done all new found is so-far =
+    let f = next-lot c a n s found in
+    let rest : after a (plan c n) ≡ f .0 ∷ after (s .through) (plan c n) =
+    rest-by-lot c n a .1 (f .0) (f .1) ∙ ap (λ k. f .0 ∷ after k (plan c n)) (f .3) in
+    let head : new ≡ hand (f .0) = is ∙ ap hand (sym (f .2)) in
+    append-assoc done (new ∷ []) (map hand (after (s .through) (plan c n)))
+    ∙ ap (λ x. done ++ (x ∷ map hand (after (s .through) (plan c n)))) head
+    ∙ ap (λ (ys : List Lot). done ++ map hand ys) (sym rest) ∙ so-far
+
+-- where nothing is found, nothing is left
+pub rest-done : (c : Case) (n a : ℕ) (hand : Lot → Terms) (done all : List Terms) → None ≡ mapped spanOf (next a (plan c n)) →
+    done ++ map hand (after a (plan c n)) ≡ all → done ≡ all
+rest-done c n a hand done all none so-far =
+    let empty : after a (plan c n) ≡ [] = rest-by-lot c n a .0 (unmapped _ none) in
+    sym (append-nil done) ∙ ap (λ (ys : List Lot). done ++ map hand ys) (sym empty) ∙ so-far
+
+-- a span after a later period is one after the base
+pub spans-base : (w : Window) (a : ℕ) (s : Span) → w .base ≤ a → Spans w a s → Spans w (w .base) s
+spans-base w a s l sp = record { later = omega (arith, sp .later); read = sp .read; ends = sp .ends }
+
+-- every lot of a plan is made after the start
+pub after-start : (c : Case) (n : ℕ) → after 0 (plan c n) ≡ plan c n
+unfolding end-of
+after-start c n = after-skip 0 0 [] (plan c n) tt (omega arith) (plan-ordered c n)

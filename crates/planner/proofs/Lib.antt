@@ -4,3 +4,5 @@ pub mod Growth
 pub mod Soundness
 pub mod Growing
 pub mod Backward
+pub mod Feeding
+pub mod Planning

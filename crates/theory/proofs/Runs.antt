@@ -6,11 +6,11 @@ use native.Mathlib.Omega.{arith}
 use lib.ListN.{length, take, getD}
 use Rattle.theory.specs.Recursion.{Case, caseOf, LawfulCosts, Lot, over, lot, plan}
 use Rattle.theory.specs.Splittings.{made-by, total}
-use Rattle.theory.specs.Regeneration.{Adjoins, end-of, Filled}
+use Rattle.theory.specs.Regeneration.{Adjoins, Filled, after, end-of}
 use Rattle.theory.specs.Netting.{net, Greatest-excess}
 use Rattle.theory.specs.Endings.{Ending}
-use Rattle.theory.specs.Series.{Entry, periods-read, taken, lots, Ran}
-use Rattle.theory.specs.Runs.{amounts, all-lots, Freezing-is-right, Emptied, Lots-hold-the-excess, Whole-run, Freezing-is-always-right, Series-obey-the-law}
+use Rattle.theory.specs.Series.{Handed, Entry, periods-read, taken, lots, base, Ran, Rests}
+use Rattle.theory.specs.Runs.{amounts, Freezing-is-right, Emptied, Lots-hold-the-excess, Whole-run, Freezing-is-always-right, Series-obey-the-law}
 use Rattle.theory.proofs.Sums.{over-none, over-split, over-same}
 use Rattle.theory.proofs.Laws.{last-le, alike-self}
 use Rattle.theory.proofs.Plans.{plan-adjoins, plan-total, plan-filled}
@@ -21,6 +21,7 @@ use Rattle.theory.proofs.Rolling.{Parts, in-parts, settled-parts, parts-reach,
 use Rattle.theory.proofs.Netting.{net-is-greatest-excess, length-nets, nets-at}
 use Rattle.theory.proofs.Kept.{in-order, within-limits, settled-by}
 use Rattle.theory.proofs.Truth.{truth}
+use Rattle.theory.proofs.Emptying.{rests-lots}
 use Rattle.theory.proofs.Agreement.{two-series}
 
 -- amounts of lots
@@ -60,7 +61,7 @@ front-amounts c n (y ∷ ys) rest q =
     )
 
 module _ {F : Type 0} (K : ℕ → ℕ) (V : ℕ → ℕ → ℕ) (ds : List ℕ) (ending : Ending F) (es : List (Entry F)) (w : LawfulCosts K V) (ran : Ran K V ds ending es) where
-  pub freezing : Freezing-is-right K V ds ending es
+  freezing : Freezing-is-right K V ds ending es
   freezing cs =
       let c : Case = caseOf K V ds in
       let t : ℕ = periods-read es in
@@ -71,15 +72,15 @@ module _ {F : Type 0} (K : ℕ → ℕ) (V : ℕ → ℕ → ℕ) (ds : List ℕ
       (alike-goes-on K V ds cs t (within-limits K V ds ending es ran .demands)) m (omega (arith, last-le c t)) in
       (made-by e (plan e m), plan-cheapest e w m, parts-begin e m (lots (taken es)) k)
 
-  is-plan : plan (caseOf K V ds) (periods-read es) ≡ all-lots K V ds ending es
-  is-plan =
+  begins-plan : plan (caseOf K V ds) (periods-read es) ≡ lots (taken es) ++ after (base es) (plan (caseOf K V ds) (periods-read es))
+  begins-plan =
       let c : Case = caseOf K V ds in
       let t : ℕ = periods-read es in
       parts-rest c t (lots (taken es))
       (settled-parts c c t (lots (taken es)) (settled-by K V ds ending es ran w) w (alike-self c t) t (omega (arith, last-le c t)))
 
-  pub emptied : Emptied K V ds ending es
-  emptied =
+  emptied : (ys : List Lot) → plan (caseOf K V ds) (periods-read es) ≡ ys → Emptied K V ds ending es ys
+  emptied ys is-plan =
       let c : Case = caseOf K V ds in
       let t : ℕ = periods-read es in
       record {
@@ -90,8 +91,8 @@ module _ {F : Type 0} (K : ℕ → ℕ) (V : ℕ → ℕ → ℕ) (ds : List ℕ
         filled = subst Filled is-plan (plan-filled c w t);
       }
 
-  pub holds-the-excess : Lots-hold-the-excess K V ds ending es
-  holds-the-excess s rs gross rising q first rest f =
+  holds-the-excess : (ys : List Lot) → plan (caseOf K V ds) (periods-read es) ≡ ys → Lots-hold-the-excess K V ds ending es ys
+  holds-the-excess ys is-plan s rs gross rising q first rest f =
       let c : Case = caseOf K V ds in
       let t : ℕ = periods-read es in
       let m : ℕ = end-of 0 first in
@@ -107,15 +108,20 @@ module _ {F : Type 0} (K : ℕ → ℕ) (V : ℕ → ℕ → ℕ) (ds : List ℕ
       sym (over-same (c .demand) (net s rs gross) 1 m one) ∙ sym (front-amounts c t first rest p) in
       subst (Greatest-excess s rs gross m) sum (net-is-greatest-excess s rs gross rising m)
 
-  whole : Whole-run K V ds ending es
-  whole =
+  whole : (closing : List Handed) → Rests (caseOf K V ds) (periods-read es) (base es) closing → Whole-run K V ds ending es closing
+  whole closing rests =
+      let c : Case = caseOf K V ds in
+      let t : ℕ = periods-read es in
+      let is-plan : plan c t ≡ lots (taken es) ++ lots closing =
+      begins-plan ∙ ap (λ (ys : List Lot). lots (taken es) ++ ys) (sym (rests-lots c t (base es) closing rests)) in
       record {
         answers = truth K V ds ending es ran;
         limits = within-limits K V ds ending es ran;
         order = in-order K V ds ending es ran;
         freezing = freezing;
-        emptied = emptied;
-        excess = holds-the-excess;
+        rests = rests;
+        emptied = emptied (lots (taken es) ++ lots closing) is-plan;
+        excess = holds-the-excess (lots (taken es) ++ lots closing) is-plan;
         agreement = two-series F K V ds ending es ran;
       }
 

@@ -19,6 +19,18 @@ Later-plans-pass-through-the-set =
 abbrev pub Test-decides-proved : Type 0
 Test-decides-proved = (c : Case) (b t : ℕ) (y : Lot) → (proves c b t ≡ Some y → Proved c b t y) × (Proved c b t y → proves c b t ≡ Some y)
 
+-- Every horizon of the regeneration set, which is not empty, has a next lot after b, and all these are made in a for the periods through z.
+pub record Horizons-agree (c : Case) (b t a z : ℕ) : Type 0 where
+  pub some : 1 ≤ last c t
+  pub all : (h : ℕ) → last c t ≤ suc h → h ≤ t → (y : Lot) × (next b (plan c h) ≡ Some y) × (y .from ≡ a) × (y .through ≡ z)
+
+-- A lot is proved exactly where the horizons agree on its first and last period: they then agree on all of it.
+abbrev pub Proved-where-horizons-agree : Type 0
+Proved-where-horizons-agree =
+    (c : Case) (b t : ℕ) →
+    ((a z : ℕ) → Horizons-agree c b t a z → Proved c b t (lot c a z)) ×
+    ((y : Lot) → Proved c b t y → Horizons-agree c b t (y .from) (y .through))
+
 -- A lot is the recursion's own: made in the last setup of its through period for all demand from there on, at what G grows by.
 pub record Own-lot (c : Case) (y : Lot) : Type 0 where
   pub is-lot : y ≡ lot c (y .from) (y .through)
@@ -31,7 +43,7 @@ Next-lot-is-the-recursions-own =
     (c : Case) (b n : ℕ) (y : Lot) → next b (plan c n) ≡ Some y →
     (b < y .from) × (y .from ≤ y .through) × (y .through ≤ n) × Own-lot c y
 
--- So does a proved lot, and it ends before its evidence.
+-- A proved lot is the recursion's own too; it begins after the base and ends before its evidence.
 abbrev pub Proved-lot-ends-before-its-evidence : Type 0
 Proved-lot-ends-before-its-evidence =
     (c : Case) (b t : ℕ) (y : Lot) → Proved c b t y →

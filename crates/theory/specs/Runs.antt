@@ -11,7 +11,7 @@ use Rattle.theory.specs.Regeneration.{Proved, Filled, after, end-of}
 use Rattle.theory.specs.Horizons.{Settled}
 use Rattle.theory.specs.Netting.{Receipt, Rising, nets, Greatest-excess}
 use Rattle.theory.specs.Endings.{Ending, Finished, Faulty}
-use Rattle.theory.specs.Series.{window-size, period-limit, Call, Read, Take, Handed, Refusal, None-proved, Lot-waits, Window-full, Limit-reached, Feed-ended, Feed-faulty, Answer, Given, Accepted, Refused, Entry, periods-read, taken, lots, base, up-to, Ran, go-on}
+use Rattle.theory.specs.Series.{window-size, period-limit, Call, Read, Take, Handed, Refusal, None-proved, Lot-waits, Window-full, Limit-reached, Feed-ended, Feed-faulty, Answer, Given, Accepted, Refused, Entry, periods-read, taken, lots, base, up-to, Ran, go-on, Rests, with-evidence}
 
 -- No lot is proved after t periods with the base b.
 abbrev pub Unproved : Case → ℕ → ℕ → Type 0
@@ -82,15 +82,13 @@ unfoldable pub amounts : List Lot → ℕ
 amounts [] = 0
 amounts (y ∷ ys) = y .amount + amounts ys
 
+-- Emptying hands out just the lots of the plan of t that are made after b, each with the evidence t.
+abbrev pub Emptying-hands-out-the-rest : Type 0
+Emptying-hands-out-the-rest =
+    (c : Case) (t b : ℕ) (hs : List Handed) →
+    (Rests c t b hs → hs ≡ with-evidence t (after b (plan c t))) × (hs ≡ with-evidence t (after b (plan c t)) → Rests c t b hs)
+
 module _ {F : Type 0} (K : ℕ → ℕ) (V : ℕ → ℕ → ℕ) (ds : List ℕ) (ending : Ending F) (es : List (Entry F)) where
-  -- The closing lots: those of the plan of the periods read that are made after the base.
-  abbrev pub closing : List Lot
-  closing = after (base es) (plan (caseOf K V ds) (periods-read es))
-
-  -- Every lot of the series, the closing ones last.
-  abbrev pub all-lots : List Lot
-  all-lots = lots (taken es) ++ closing
-
   -- Each answer says what is so at its place.
   abbrev pub Answers-tell-the-truth : Type 0
   Answers-tell-the-truth =
@@ -104,20 +102,6 @@ module _ {F : Type 0} (K : ℕ → ℕ) (V : ℕ → ℕ → ℕ) (ds : List ℕ
       let e : Case = caseOf K V (take (periods-read es) ds ++ cs) in
       (x : ℕ → ℕ → ℕ) × Cheapest e x (periods-read es + length cs) × Begins-with e (lots (taken es)) x
 
-  -- All lots together are the plan of the periods read, cost just what the cheapest plan of any kind does, and none is empty.
-  pub record Emptied : Type 0 where
-    pub is-plan : all-lots ≡ plan (caseOf K V ds) (periods-read es)
-    pub x : ℕ → ℕ → ℕ
-    pub cheapest : Cheapest (caseOf K V ds) x (periods-read es)
-    pub costs : total all-lots ≡ cost (caseOf K V ds) x (periods-read es)
-    pub filled : Filled all-lots
-
-  -- Where the demands are netted, the first lots, however many, hold the greatest excess of gross demand up to their end.
-  abbrev pub Lots-hold-the-excess : Type 0
-  Lots-hold-the-excess =
-      (stock : ℕ) (receipts : List Receipt) (gross : List ℕ) → Rising 0 receipts → ds ≡ nets stock receipts gross (length gross) →
-      (first rest : List Lot) → all-lots ≡ first ++ rest → Greatest-excess stock receipts gross (end-of 0 first) (amounts first)
-
   -- Of the lots with evidence of at most t, this series and any other that is alike through t took the same, as far as both went.
   abbrev pub Agrees-with-others : Type 0
   Agrees-with-others =
@@ -125,14 +109,29 @@ module _ {F : Type 0} (K : ℕ → ℕ) (V : ℕ → ℕ → ℕ) (ds : List ℕ
       (t : ℕ) → Alike-as-read K K′ V V′ ds ds′ (periods-read es) (periods-read es′) t →
       Agree-past t (periods-read es) (periods-read es′) (up-to t (taken es)) (up-to t (taken es′))
 
-  -- The law of whole runs.
-  pub record Whole-run : Type 0 where
+  -- The lots ys are the plan of the periods read, cost just what the cheapest plan of any kind does, and none is empty.
+  pub record Emptied (ys : List Lot) : Type 0 where
+    pub is-plan : ys ≡ plan (caseOf K V ds) (periods-read es)
+    pub x : ℕ → ℕ → ℕ
+    pub cheapest : Cheapest (caseOf K V ds) x (periods-read es)
+    pub costs : total ys ≡ cost (caseOf K V ds) x (periods-read es)
+    pub filled : Filled ys
+
+  -- Where the demands are netted, the first of the lots ys, however many, hold the greatest excess of gross demand up to their end.
+  abbrev pub Lots-hold-the-excess : List Lot → Type 0
+  Lots-hold-the-excess ys =
+      (stock : ℕ) (receipts : List Receipt) (gross : List ℕ) → Rising 0 receipts → ds ≡ nets stock receipts gross (length gross) →
+      (first rest : List Lot) → ys ≡ first ++ rest → Greatest-excess stock receipts gross (end-of 0 first) (amounts first)
+
+  -- The law of whole runs: of a series, and of the closing lots that emptying handed out behind it.
+  pub record Whole-run (closing : List Handed) : Type 0 where
     pub answers : Answers-tell-the-truth
     pub limits : Within-limits (length ds) (periods-read es) (base es)
     pub order : In-order (periods-read es) 0 (taken es)
     pub freezing : Freezing-is-right
-    pub emptied : Emptied
-    pub excess : Lots-hold-the-excess
+    pub rests : Rests (caseOf K V ds) (periods-read es) (base es) closing
+    pub emptied : Emptied (lots (taken es) ++ lots closing)
+    pub excess : Lots-hold-the-excess (lots (taken es) ++ lots closing)
     pub agreement : Agrees-with-others
 
 module _ (F : Type 0) where
@@ -162,6 +161,8 @@ module _ (F : Type 0) where
   Two-series-agree =
       (K : ℕ → ℕ) (V : ℕ → ℕ → ℕ) (ds : List ℕ) (ending : Ending F) (es : List (Entry F)) → Ran K V ds ending es → Agrees-with-others K V ds ending es
 
-  -- Every series that was run at lawful costs is a whole run.
+  -- Every series that was run at lawful costs, and then emptied, is a whole run.
   abbrev pub Series-obey-the-law : Type 0
-  Series-obey-the-law = Of-every-run Whole-run
+  Series-obey-the-law =
+      Of-every-run (λ K V ds ending es.
+      (closing : List Handed) → Rests (caseOf K V ds) (periods-read es) (base es) closing → Whole-run K V ds ending es closing)
