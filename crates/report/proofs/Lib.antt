@@ -1,2 +1,5 @@
 pub mod CostLines
+pub mod Models
+pub mod Payable
+pub mod Totals
 pub mod Writing

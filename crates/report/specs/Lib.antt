@@ -1,3 +1,6 @@
 pub mod CostLines
+pub mod Costing
 pub mod Lines
+pub mod Planning
+pub mod Printing
 pub mod Refusals

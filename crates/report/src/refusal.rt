@@ -1,6 +1,7 @@
 // Why an input gets no plan.
 ghost use mathlib.Core.Path.{_≡_};
 ghost use Rattle.report.specs.Refusals.{refusalNumber, refusalPlace};
+ghost use Rattle.report.specs.declared.refusal.Refusal.the-variants.{Costs as OfCosts};
 use costs::CostFault;
 use feeds::FeedFault;
 
@@ -39,5 +40,13 @@ impl Refusal {
             Refusal::Feed(fault) => fault.place(),
             _ => 0,
         }
+    }
+}
+
+pub impl From<CostFault> for Refusal as RefusalFromCosts {
+    ghost converts = { λ f r. r ≡ OfCosts f };
+
+    fn from(fault: CostFault) -> Refusal {
+        Refusal::Costs(fault)
     }
 }
