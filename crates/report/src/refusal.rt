@@ -46,7 +46,7 @@ impl Refusal {
 pub impl From<CostFault> for Refusal as RefusalFromCosts {
     ghost converts = { λ f r. r ≡ OfCosts f };
 
-    fn from(fault: CostFault) -> Refusal {
-        Refusal::Costs(fault)
+    fn from(refused: CostFault) -> Refusal {
+        Refusal::Costs(refused)
     }
 }
