@@ -1,1 +1,5 @@
 pub mod Forecasts
+pub mod Layers
+pub mod Orderly
+pub mod Supplies
+pub mod Texts

@@ -1,4 +1,10 @@
 pub mod Faults
 pub mod Feeding
+pub mod Netting
+pub mod NettingMade
+pub mod Orders
+pub mod Periods
+pub mod Receipts
 pub mod Text
+pub mod Forecasts
 pub mod Lines

@@ -19,6 +19,7 @@ use Rattle.feeds.specs.declared.line.Front.{Front}
 use Rattle.feeds.specs.declared.line.Front.the-variants.{Nothing, End, EndAndMore, Other}
 use Rattle.feeds.specs.declared.line.Line.{Line}
 use Rattle.feeds.specs.Faults.{periodRead}
+use Rattle.feeds.specs.Forecasts.{Forecast, goesOn}
 
 -- a line is two numbers of at most 7 digits, a comma behind the first and a line feed behind the second
 abbrev pub lineOf : Numeral → Option Numeral → Option Line
@@ -59,21 +60,10 @@ recordOf place handed bs Other = checked place handed (lineAt bs)
 unfoldable pub recordAt : ℕ → ℕ → List ℕ → Result (Option Line) RecordFault
 recordAt place handed bs = recordOf place handed bs (frontOf bs)
 
--- a forecast: the demands still to come, and how they end
-pub record Forecast : Type 0 where
-  pub demands : List ℕ
-  pub ending : Ending FeedFault
-
--- the forecast that begins with this record, where `rest` follows a line
-abbrev pub goesOn : Result (Option Line) RecordFault → (Line → Forecast) → Forecast
-goesOn (Err f) rest = record { demands = []; ending = Faulty (Record f 0) }
-goesOn (Ok None) rest = record { demands = []; ending = Finished }
-goesOn (Ok (Some l)) rest = record { demands = l .demand ∷ rest l .demands; ending = rest l .ending }
-
 -- n lines at most, and then no byte is left
 unfoldable pub forecastIn : ℕ → ℕ → ℕ → List ℕ → Forecast
 forecastIn zero place handed bs = record { demands = []; ending = Faulty (Record (NothingLeft place (periodRead handed)) 0) }
-forecastIn (suc n) place handed bs = goesOn (recordAt place handed bs) (λ l. forecastIn n (place + l .length) (handed + 1) (drop (l .length) bs))
+forecastIn (suc n) place handed bs = goesOn (λ l. l .demand) (recordAt place handed bs) (λ l. forecastIn n (place + l .length) (handed + 1) (drop (l .length) bs))
 
 -- the forecast that the bytes bs from this place on are, once so many periods were handed out; no line takes less than a byte
 unfoldable pub forecast : ℕ → ℕ → List ℕ → Forecast

@@ -11,6 +11,10 @@ pub enum RecordFault {
     DemandTooLarge { place: usize, period: u32 },
     NothingLeft { place: usize, period: u32 },
     BytesAfterEnd { place: usize, period: u32 },
+    CutWord { place: usize, period: u32 },
+    BeforeFirstPeriod { place: usize, period: u32 },
+    CancelsTooMuch { place: usize, period: u32 },
+    WrongCount { place: usize, period: u32 },
 }
 
 impl RecordFault {
@@ -23,6 +27,10 @@ impl RecordFault {
             RecordFault::DemandTooLarge { .. } => 11,
             RecordFault::NothingLeft { .. } => 12,
             RecordFault::BytesAfterEnd { .. } => 13,
+            RecordFault::CutWord { .. } => 14,
+            RecordFault::BeforeFirstPeriod { .. } => 15,
+            RecordFault::CancelsTooMuch { .. } => 16,
+            RecordFault::WrongCount { .. } => 17,
         }
     }
 
@@ -34,7 +42,11 @@ impl RecordFault {
             | RecordFault::WrongPeriod { place, .. }
             | RecordFault::DemandTooLarge { place, .. }
             | RecordFault::NothingLeft { place, .. }
-            | RecordFault::BytesAfterEnd { place, .. } => place,
+            | RecordFault::BytesAfterEnd { place, .. }
+            | RecordFault::CutWord { place, .. }
+            | RecordFault::BeforeFirstPeriod { place, .. }
+            | RecordFault::CancelsTooMuch { place, .. }
+            | RecordFault::WrongCount { place, .. } => place,
         }
     }
 
@@ -46,7 +58,11 @@ impl RecordFault {
             | RecordFault::WrongPeriod { period, .. }
             | RecordFault::DemandTooLarge { period, .. }
             | RecordFault::NothingLeft { period, .. }
-            | RecordFault::BytesAfterEnd { period, .. } => period,
+            | RecordFault::BytesAfterEnd { period, .. }
+            | RecordFault::CutWord { period, .. }
+            | RecordFault::BeforeFirstPeriod { period, .. }
+            | RecordFault::CancelsTooMuch { period, .. }
+            | RecordFault::WrongCount { period, .. } => period,
         }
     }
 }

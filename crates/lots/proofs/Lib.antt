@@ -1,2 +1,3 @@
 pub mod Decimals
-mod Lines
+pub mod Lines
+mod ReadBack

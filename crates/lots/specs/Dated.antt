@@ -6,7 +6,7 @@ use lib.Dec.{eqb, leb, ltb}
 use lib.ListN.{length}
 use Rattle.std.specs.declared.option.Option.{Option}
 use Rattle.std.specs.declared.option.Option.the-variants.{Some, None}
-use Rattle.std.specs.Options.{mapped}
+use Rattle.std.specs.Options.{mapped, orOther}
 use Rattle.lots.specs.declared.dated.FirstDate.{FirstDate}
 use Rattle.lots.specs.declared.dated.FirstDate.the-variants.{Exactly, AtLeast}
 use Rattle.lots.specs.declared.dated.DatedFault.{DatedFault}
@@ -30,7 +30,7 @@ datesRight date first (x ∷ xs) = firstAllowed first (date x) && risesAfter dat
 -- what the first line earns that earns anything
 abbrev pub firstEarned : {L E : Type 0} → (L → Option E) → List L → Option E
 firstEarned earned [] = None
-firstEarned earned (x ∷ xs) = elim (earned x) [ None ↦ firstEarned earned xs | Some e ↦ Some e ]
+firstEarned earned (x ∷ xs) = orOther (earned x) (firstEarned earned xs)
 
 -- why these lines are refused: for their count, else for their dates, else for what a line earns
 abbrev pub datedFault : {L E : Type 0} → (L → ℕ) → (L → Option E) → ℕ → ℕ → FirstDate → List L → Option (DatedFault E)

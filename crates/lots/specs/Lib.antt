@@ -1,3 +1,4 @@
 pub mod Dated
 pub mod Decimals
 pub mod Lots
+pub mod Words

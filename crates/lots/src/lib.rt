@@ -1,10 +1,11 @@
-// What every layer shares: the lot, the check of dated lines, and numbers as decimal text.
+// What every layer shares: the lot, the check of dated lines, numbers as decimal text, and words of 32 bits.
 pub mod dated;
 pub mod decimal;
 mod lot;
 pub mod making;
 #[cfg(test)]
 mod tests;
+pub mod word;
 
 pub use dated::DatedFault;
 pub use dated::DatedLine;
@@ -14,3 +15,5 @@ pub use dated::check_dated;
 pub use decimal::Numeral;
 pub use lot::Lot;
 pub use lot::LotKind;
+pub use word::Word;
+pub use word::WordKind;

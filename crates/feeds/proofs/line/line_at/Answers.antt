@@ -3,7 +3,7 @@ use lib.ListN.{drop}
 use Rattle.std.proofs.shelf.Lists.{take-rest}
 use Rattle.lots.specs.Decimals.{fieldAt}
 use Rattle.feeds.specs.Text.{lineOf, lineAfter, lineAt}
-use Rattle.feeds.proofs.Forecasts.{line-told}
+use Rattle.feeds.proofs.Texts.{line-told}
 use Rattle.feeds.proofs.line.line_at.Needs as need
 
 pub returns-in-Break-period : need.returns-in-Break-period

@@ -3,7 +3,7 @@ use Prim.Native.Nat.{_+_}
 use Rattle.std.proofs.shelf.Tests.{cond-true, cond-false, eq-eqb, ne-eqb, le-leb, lt-leb}
 use Rattle.std.specs.declared.result.Result.the-variants.{Ok, Err}
 use Rattle.feeds.specs.declared.fault.RecordFault.the-variants.{OtherLayout, WrongPeriod, DemandTooLarge, NothingLeft, BytesAfterEnd}
-use Rattle.feeds.proofs.Forecasts.{record-told, period-is, at-front, at-line}
+use Rattle.feeds.proofs.Texts.{record-told, period-is, at-front, at-line}
 use Rattle.feeds.proofs.text.TextFeed.read_line.Needs as need
 
 pub returns-in-Nothing : need.returns-in-Nothing

@@ -2,7 +2,8 @@ use mathlib.Core.Path.{_≡_, refl, sym, ap, _∙_}
 use native.Mathlib.Omega.{arith}
 use Rattle.std.proofs.shelf.Results.{err-from-errBy, made-from-err}
 use Rattle.std.specs.declared.result.Result.the-variants.{Ok, Err}
-use Rattle.feeds.proofs.Forecasts.{opened, told-end, none-left, went-on, told-first, rest-left, same-ending, not-empty, small, first-small}
+use Rattle.feeds.proofs.Forecasts.{told-end, none-left, told-first, rest-left, same-ending, first-small, not-empty}
+use Rattle.feeds.proofs.Texts.{opened, went-on, small}
 use Rattle.feeds.proofs.text.TextIsFeed.next.Needs as need
 
 pub returns-in-Break-line : need.returns-in-Break-line
