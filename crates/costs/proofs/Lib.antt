@@ -1,1 +1,5 @@
-pub mod Told
+mod Jumps
+mod Refusing
+mod InForce
+mod Held
+mod Told

@@ -2,6 +2,7 @@ ghost use mathlib.Core.Path.{_≡_};
 ghost use Prim.Native.Nat.{ℕ, _≤_};
 ghost use Rattle.costs.specs.Constant.{constantPrice};
 use crate::model::CostModel;
+use crate::model::no_price;
 
 // The same costs in every period.
 #[derive(Clone, Copy, PartialEq, Eq, Debug)]
@@ -28,7 +29,7 @@ pub impl CostModel for ConstantCosts as ConstantCostModel {
     }
 
     fn price(&self, j: u32, i: u32) -> Option<u64> {
-        if j == 0 || i < j || i - j > 255 {
+        if no_price(j, i) {
             return None;
         }
         Some(self.unit + self.holding * u64::from(i - j))

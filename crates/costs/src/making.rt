@@ -8,19 +8,13 @@ impl ConstantCosts {
     pub fn new(setup: u64, unit: u64, holding: u64) -> Result<ConstantCosts, CostFault>
         ensures { λ r. ⌜ outcome r ≡ due setup unit holding ⌝ }
     {
-        if setup < 1 || setup > 1_000_000_000 {
-            return Err(CostFault::Setup);
+        match CostFault::found(setup, unit, holding) {
+            Some(fault) => Err(fault),
+            None => Ok(ConstantCosts {
+                setup,
+                unit,
+                holding,
+            }),
         }
-        if unit > 100_000 {
-            return Err(CostFault::Unit);
-        }
-        if holding > 3_000 {
-            return Err(CostFault::Holding);
-        }
-        Ok(ConstantCosts {
-            setup,
-            unit,
-            holding,
-        })
     }
 }

@@ -1,0 +1,2 @@
+mod Splicing
+mod Filing
