@@ -2,4 +2,5 @@ mod Jumps
 mod Refusing
 mod InForce
 mod Held
-mod Told
+mod DatedTold
+pub mod Told

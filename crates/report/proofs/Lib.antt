@@ -1,4 +1,5 @@
 pub mod CostLines
+pub mod Counts
 pub mod Models
 pub mod Payable
 pub mod Totals

@@ -27,7 +27,7 @@ use Rattle.costs.specs.declared.fault.CostFault.{CostFault}
 use Rattle.costs.specs.declared.fault.CostFault.the-variants.{Setup, Unit as UnitCost, Holding}
 use Rattle.feeds.specs.declared.fault.FeedFault.{FeedFault}
 use Rattle.feeds.specs.Feeding.{Small}
-use Rattle.feeds.specs.Text.{Forecast}
+use Rattle.feeds.specs.Forecasts.{Forecast}
 use Rattle.planner.specs.Lots.{handed}
 use Rattle.report.specs.declared.cost_line.CostLine.{CostLine}
 use Rattle.report.specs.declared.refusal.Refusal.{Refusal}

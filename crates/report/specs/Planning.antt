@@ -16,7 +16,7 @@ use Rattle.lots.specs.declared.lot.Lot.{Lot}
 use Rattle.lots.specs.declared.lot.LotKind.the-variants.{Closing}
 use Rattle.costs.specs.Constant.{constantPrice}
 use Rattle.feeds.specs.declared.fault.FeedFault.{FeedFault}
-use Rattle.feeds.specs.Text.{Forecast}
+use Rattle.feeds.specs.Forecasts.{Forecast}
 use Rattle.planner.specs.Lots.{handed}
 use Rattle.report.specs.declared.cost_line.CostLine.{CostLine}
 use Rattle.report.specs.declared.refusal.Refusal.{Refusal}

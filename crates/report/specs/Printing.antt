@@ -4,6 +4,7 @@ use Prim.Native.Nat.{ℕ, _+_, _^_, _<_}
 use Rattle.std.specs.declared.result.Result.{Result}
 use Rattle.std.specs.declared.result.Result.the-variants.{Ok, Err}
 use Rattle.lots.specs.Lots.{Terms}
+use Rattle.feeds.specs.Orders.{orders}
 use Rattle.feeds.specs.Text.{forecast}
 use Rattle.report.specs.declared.refusal.Refusal.{Refusal}
 use Rattle.report.specs.Lines.{lotLine, totalLine, refusalLine}
@@ -37,3 +38,7 @@ Payable (Err r) = Unit {0}
 -- what is printed for an input whose demands are a forecast text
 unfoldable pub printed : List ℕ → List ℕ
 printed bs = printedPlan (inputPlan (forecast 0 0) bs)
+
+-- what is printed for an input whose demands are order words
+unfoldable pub printedOrders : List ℕ → List ℕ
+printedOrders bs = printedPlan (inputPlan (λ text. orders text 0 0) bs)

@@ -3,6 +3,7 @@ ghost use mathlib.Core.Path.{_≡_};
 ghost use Prim.Native.Nat.{ℕ};
 ghost use Rattle.std.specs.Vec.{made};
 ghost use Rattle.costs.specs.Constant.{constantPrice};
+ghost use Rattle.feeds.specs.Orders.{orders};
 ghost use Rattle.feeds.specs.Text.{forecast};
 ghost use Rattle.report.specs.Planning.{lotsTold, planDue, inputPlan};
 use crate::costing::costs_of;
@@ -10,7 +11,9 @@ use crate::refusal::Refusal;
 use costs::ConstantCosts;
 use costs::constant::ConstantCostModel;
 use feeds::Feed;
+use feeds::OrderFeed;
 use feeds::TextFeed;
+use feeds::orders::OrdersAreFeed;
 use feeds::text::TextIsFeed;
 use lots::Lot;
 use planner::PlanRefusal;
@@ -36,6 +39,16 @@ pub fn forecast_plan(heap: Global, input: &[u8]) -> Result<Result<Vec<Lot>, Refu
 {
     match costs_of(input) {
         Ok(costs) => planned(heap, &costs.model, TextFeed::new(&input[costs.length..])),
+        Err(refusal) => Ok(Err(refusal)),
+    }
+}
+
+// The plan of an input whose demands are order words.
+pub fn order_plan(heap: Global, input: &[u8]) -> Result<Result<Vec<Lot>, Refusal>, AllocError>
+    ensures { λ r. ⌜ made r (λ p. lotsTold p ≡ inputPlan (λ bs. orders bs 0 0) (now (input .entry))) ⌝ }
+{
+    match costs_of(input) {
+        Ok(costs) => planned(heap, &costs.model, OrderFeed::new(&input[costs.length..])),
         Err(refusal) => Ok(Err(refusal)),
     }
 }

@@ -2,7 +2,8 @@ use mathlib.Core.Path.{_≡_, refl, sym, ap, _∙_}
 use Rattle.std.proofs.shelf.Lists.{take-rest}
 use Rattle.std.proofs.shelf.Results.{made-weaker}
 use Rattle.costs.specs.Constant.{constantPrice}
-use Rattle.feeds.specs.Text.{Forecast, forecast}
+use Rattle.feeds.specs.Forecasts.{Forecast}
+use Rattle.feeds.specs.Text.{forecast}
 use Rattle.report.specs.Planning.{planDue, planAt}
 use Rattle.report.proofs.plan.forecast_plan.Needs as need
 

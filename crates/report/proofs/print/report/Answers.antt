@@ -1,7 +1,7 @@
 use mathlib.Core.Path.{_≡_, sym, ap, subst, _∙_}
 use Rattle.std.proofs.shelf.Results.{made-weaker}
 use Rattle.feeds.specs.Text.{forecast}
-use Rattle.feeds.proofs.Forecasts.{small}
+use Rattle.feeds.proofs.Texts.{small}
 use Rattle.report.specs.Printing.{Payable, printedPlan, printed}
 use Rattle.report.proofs.Payable.{payable}
 use Rattle.report.proofs.print.report.Needs as need

@@ -4,7 +4,7 @@ use Rattle.std.specs.Of.Vec.{vec-items}
 use Rattle.costs.specs.Dated.{lineAt, linesFault}
 use Rattle.costs.proofs.InForce.{fair-at}
 use Rattle.costs.proofs.Held.{held-fits}
-use Rattle.costs.proofs.Told.{none-of, line-told, priced, held-less, price-told}
+use Rattle.costs.proofs.DatedTold.{none-of, line-told, priced, held-less, price-told}
 use Rattle.costs.proofs.dated.DatedCostModel.price.Needs as need
 
 pub sub-held : need.sub-held

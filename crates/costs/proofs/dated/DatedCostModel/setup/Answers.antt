@@ -1,7 +1,7 @@
 use mathlib.Core.Path.{ap}
 use native.Mathlib.Omega.{arith}
 use Rattle.std.specs.Of.Vec.{vec-items}
-use Rattle.costs.proofs.Told.{none-of, line-told, setup-told}
+use Rattle.costs.proofs.DatedTold.{none-of, line-told, setup-told}
 use Rattle.costs.proofs.dated.DatedCostModel.setup.Needs as need
 
 pub returns : need.returns

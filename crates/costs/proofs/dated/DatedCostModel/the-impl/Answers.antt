@@ -1,6 +1,6 @@
 use Rattle.std.specs.Of.Vec.{vec-items}
 use Rattle.costs.proofs.Held.{dated-lawful}
-use Rattle.costs.proofs.Told.{none-of}
+use Rattle.costs.proofs.DatedTold.{none-of}
 use Rattle.costs.proofs.dated.DatedCostModel.the-impl.Needs as need
 
 pub lawful-law : need.lawful-law

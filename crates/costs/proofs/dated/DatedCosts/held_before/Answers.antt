@@ -6,7 +6,7 @@ use Rattle.std.proofs.shelf.Lists.{getD-read}
 use Rattle.costs.specs.Dated.{noLine, heldBefore}
 use Rattle.costs.proofs.InForce.{dated-from-1}
 use Rattle.costs.proofs.Held.{held-fits}
-use Rattle.costs.proofs.Told.{none-of, length-summed, held-told}
+use Rattle.costs.proofs.DatedTold.{none-of, length-summed, held-told}
 use Rattle.costs.proofs.dated.DatedCosts.held_before.Needs as need
 
 pub index-requires : need.index-requires

@@ -1,7 +1,7 @@
 use native.Mathlib.Omega.{arith}
 use Rattle.std.specs.Of.Vec.{vec-items}
 use Rattle.costs.proofs.InForce.{first-dated}
-use Rattle.costs.proofs.Told.{none-of}
+use Rattle.costs.proofs.DatedTold.{none-of}
 use Rattle.costs.proofs.dated.DatedCosts.in_force.Needs as need
 
 pub loop-high-holds : need.loop-high-holds
