@@ -38,7 +38,7 @@ impl<F: Feed, M: CostModel> Planner<F, M> {
         }
     }
 
-    // Reads the next period from the feed and tells whether a lot is proved now.
+    // Asks the feed for one more period; the answer says if some lot has become certain.
     pub fn read(&mut self) -> Result<bool, ReadRefusal>
         ensures follows { λ r. ⌜ Follows (M·CostModel .K (now (self .entry) .model)) (M·CostModel .V (now (self .entry) .model)) (window (now (self .entry) .rows)) (F·Feed .demands (now (self .entry) .feed)) (F·Feed .ending (now (self .entry) .feed)) Read (readAnswer r) (window (now (self .exit) .rows)) (F·Feed .demands (now (self .exit) .feed)) (F·Feed .ending (now (self .exit) .feed)) ⌝ }
         ensures onward { λ r. ⌜ made r (λ _. (window (now (self .exit) .rows) .base ≡ window (now (self .entry) .rows) .base) × (reading (window (now (self .exit) .rows)) ≡ suc (reading (window (now (self .entry) .rows))))) ⌝ }

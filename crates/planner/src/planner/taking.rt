@@ -17,7 +17,7 @@ use lots::Lot;
 use lots::LotKind;
 
 impl<F: Feed, M: CostModel> Planner<F, M> {
-    // Hands out the proved lot as frozen, and makes its end the base. Another lot may be proved at once.
+    // Gives away the lot that has become certain and makes its end the base. Another one may be certain at once.
     pub fn take(&mut self) -> Result<Lot, TakeRefusal>
         ensures follows { λ r. ⌜ Follows (M·CostModel .K (now (self .entry) .model)) (M·CostModel .V (now (self .entry) .model)) (window (now (self .entry) .rows)) (F·Feed .demands (now (self .entry) .feed)) (F·Feed .ending (now (self .entry) .feed)) Take (takeAnswer r) (window (now (self .exit) .rows)) (F·Feed .demands (now (self .exit) .feed)) (F·Feed .ending (now (self .exit) .feed)) ⌝ }
         ensures onward { λ r. ⌜ made r (λ y. (window (now (self .exit) .rows) .base ≡ y .through) × (window (now (self .entry) .rows) .base < y .through) × (reading (window (now (self .exit) .rows)) ≡ reading (window (now (self .entry) .rows)))) ⌝ }
