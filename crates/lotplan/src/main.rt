@@ -31,11 +31,12 @@ fn asked(rt: &LibcRuntime) -> io::Result<Option<Mode>> {
     if args.next().is_some() {
         return Ok(None);
     }
-    Ok(match word.as_str() {
+    let mode = match word.as_str() {
         "orders" => Some(Mode::Orders),
         "file" => Some(Mode::File),
         _ => None,
-    })
+    };
+    Ok(mode)
 }
 
 fn read_input(rt: &LibcRuntime) -> io::Result<Vec<u8>> {

@@ -75,8 +75,10 @@ module _ (setup unit holding : ℕ) (ds : List ℕ) (s : setup ≤ 1000000000) (
     where
       priced : ℕ → ℕ
       priced i = getD ds (i - 1) 0 * (unit + holding * (i - suc n))
+
       unheld : holding * (suc n - suc n) ≡ 0
       unheld = ap (λ x. holding * x) (sub-self (suc n)) ∙ mul-zero holding
+
       own : getD ds (suc n - 1) 0 * (unit + holding * (suc n - suc n)) ≤ 100000000000
       own = mul-le-mul {m₂ = 100000} (small-at ds small (suc n - 1)) (omega (arith, u, unheld))
 

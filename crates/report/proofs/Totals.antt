@@ -36,7 +36,9 @@ module _ (lots : List Lot) (i : ℕ) where
     where
       none : drop i lots ≡ []
       none = drop-all i lots h
+
       summed : sum ≡ totalCost (map terms lots)
       summed = omega (arith, t, ap (λ (l : List Lot). totalCost (map terms l)) none)
+
       written : was ≡ out ++ lotLines (map terms lots)
       written = sym (append-nil was) ∙ ap (λ (l : List Lot). was ++ lotLines (map terms l)) (sym none) ∙ inv

@@ -22,7 +22,11 @@ use std::alloc::AllocError;
 use std::alloc::Global;
 
 // The plan of everything that the feed hands out, or why there is none.
-fn planned<F: Feed + Drop>(heap: Global, model: &ConstantCosts, feed: F) -> Result<Result<Vec<Lot>, Refusal>, AllocError>
+fn planned<F: Feed + Drop>(
+    heap: Global,
+    model: &ConstantCosts,
+    feed: F,
+) -> Result<Result<Vec<Lot>, Refusal>, AllocError>
     ensures { λ r. ⌜ made r (λ p. lotsTold p ≡ planDue (λ _. now (model .entry) .setup) (constantPrice (now (model .entry) .unit) (now (model .entry) .holding)) (F·Feed .demands feed) (F·Feed .ending feed)) ⌝ }
 {
     match cheapest_plan(heap, feed, model) {

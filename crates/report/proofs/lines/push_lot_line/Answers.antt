@@ -12,8 +12,8 @@ returns c =
     let out = vec-items (c .args .out .now) in
     let y = c .args .lot .now in
     let word =
-        pushed {xs = out} (c .kind-word .result .now) refl (c .in-Continue-extend-from-slice .was tt) (c .extend-from-slice .ensures .items)
-        ∙ ap (λ w. out ++ w) (c .kind-word .ensures) in
+    pushed {xs = out} (c .kind-word .result .now) refl (c .in-Continue-extend-from-slice .was tt) (c .extend-from-slice .ensures .items)
+    ∙ ap (λ w. out ++ w) (c .kind-word .ensures) in
     let first = behind (spaced (y .from)) word (c .in-Continue-push-spaced .ensures tt) in
     let second = behind (spaced (y .through)) first (c .in-Continue-push-spaced-2 .ensures tt) in
     let third = behind (spaced (y .amount)) second (c .in-Continue-push-spaced-3 .ensures tt) in

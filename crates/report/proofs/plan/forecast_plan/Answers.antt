@@ -14,5 +14,5 @@ returns-in-Ok c =
     let whole = c .new .ensures .whole ∙ ap (forecast 0 0) (take-rest bs (c .in-Ok .costs .length)) in
     made-weaker (c .planned .result) _ _
     (λ p e. e ∙ ap (λ (f : Forecast). planDue (λ _. m .setup) (constantPrice (m .unit) (m .holding)) (f .demands) (f .ending)) whole
-        ∙ ap (planAt (forecast 0 0) bs) (c .in-Ok .ensures tt .told))
+    ∙ ap (planAt (forecast 0 0) bs) (c .in-Ok .ensures tt .told))
     (c .planned .ensures)

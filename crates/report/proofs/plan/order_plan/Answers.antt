@@ -16,5 +16,5 @@ returns-in-Ok c =
     let whole = c .new .ensures .whole ∙ ap (λ (text : List ℕ). orders text 0 0) (take-rest bs (c .in-Ok .costs .length)) in
     made-weaker (c .planned .result) _ _
     (λ p e. e ∙ ap (λ (f : Forecast). planDue (λ _. m .setup) (constantPrice (m .unit) (m .holding)) (f .demands) (f .ending)) whole
-        ∙ ap (planAt (λ text. orders text 0 0) bs) (c .in-Ok .ensures tt .told))
+    ∙ ap (planAt (λ text. orders text 0 0) bs) (c .in-Ok .ensures tt .told))
     (c .planned .ensures)

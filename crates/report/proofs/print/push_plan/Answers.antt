@@ -12,8 +12,7 @@ pub loop-lot-again : need.loop-lot-again
 loop-lot-again c =
     let lots = c .args .lots .now in
     let i = c .loop-lot .lot-index in
-    let y = c .lot-item .result in
-    (
+    let y = c .lot-item .result in (
       omega (arith, c .loop-lot .inv .0, total-next lots i y (omega arith) (c .lot-item .is)),
       lines-next lots i y _ _ _ (omega arith) (c .lot-item .is) (c .in-Continue-push-lot-line .ensures tt) (c .loop-lot .inv .1),
     )
