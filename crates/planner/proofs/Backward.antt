@@ -68,6 +68,7 @@ module _ (c : Case) (after n l : ℕ) (is : l ≡ last c n) where
       before : (j : ℕ) → l ≡ suc j → (x : Option Lot) → next after (plan c j) ≡ x → r ≡ mapped spanOf x → r ≡ mapped spanOf (next after (plan c n))
       before j e None q p = absurd (some p)
       before j e (Some y) q p = p ∙ sym (ap (mapped spanOf) (next-of-plan c after n j (sym is ∙ e) .0 y q))
+
       go : (k : ℕ) → l ≡ k → r ≡ mapped spanOf (next after (plan c n))
       go zero e = absurd (omega arith)
       go (suc j) e =

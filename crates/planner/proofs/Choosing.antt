@@ -37,7 +37,7 @@ walk-begins option old own = record {
 
 -- place p is next; its option is raised to its cost x
 module _ (option : ℕ → ℕ) (old now : List ℕ) (place own cost best p x : ℕ) (next : suc p ≡ place) (at : x ≡ option p)
-  (w : Walked option old now place own cost best) where
+    (w : Walked option old now place own cost best) where
   step-kept : (k : ℕ) → k < p → getD (set now p x) k 0 ≡ getD old k 0
   step-kept k l = getD-set-other now p k x 0 (λ e. omega arith) ∙ w .kept k (omega arith)
 

@@ -168,7 +168,7 @@ module _ (K : ℕ → ℕ) (V : ℕ → ℕ → ℕ) (ds : List ℕ) (ending : E
         let k : ℕ = 20000 - length (e .es) in
         let enough : 20001 ≡ length (e .es) + suc k = omega (arith, e .spent) in
         let end-there = ap (λ n. eager-in (caseOf K V ds) (length ds) ending n 0 0) enough ∙ e .begins (suc k)
-            ∙ ap (with-lots (taken (e .es))) (step-read k t (base (e .es)) (Refused r) none (last-due K V ds ending (e .es) Read (Refused r) v left′ end′ tr)) in
+        ∙ ap (with-lots (taken (e .es))) (step-read k t (base (e .es)) (Refused r) none (last-due K V ds ending (e .es) Read (Refused r) v left′ end′ tr)) in
         record {
           taken = taken (e .es);
           listed = e .listed;

@@ -36,8 +36,7 @@ told-fault (x ∷ l) e f p = absurd (never (cc))
 pub next-demand : (ds l : List ℕ) (t d : ℕ) → l ≡ drop t ds → l ≡ d ∷ others l → (getD ds t 0 ≡ d) × (t < length ds) × (others l ≡ drop (suc t) ds)
 next-demand ds l t d at is =
     let here : drop t ds ≡ d ∷ others l = sym at ∙ is in
-    let some : length (drop t ds) ≡ suc (length (others l)) = ap length here in
-    (
+    let some : length (drop t ds) ≡ suc (length (others l)) = ap length here in (
       ap (λ k. getD ds k 0) (sym (add-zero t)) ∙ sym (getD-drop t ds 0 0) ∙ ap (λ (xs : List ℕ). getD xs 0 0) here,
       omega (arith, length-drop t ds),
       sym (drop-more ds t d (others l) here),

@@ -51,7 +51,7 @@ some-behind None p e = ap isSome e
 some-behind (Some y) p e = ap isSome e
 
 module _ (K : ℕ → ℕ) (V : ℕ → ℕ → ℕ) (ds : List ℕ) (ending : Ending FeedFault) (es : List (Entry FeedFault)) (w : Window) (left : List ℕ) (end : Ending FeedFault)
-  (tr : Tracks K V ds ending es w left end) where
+    (tr : Tracks K V ds ending es w left end) where
   -- what the rows prove is what the series proves
   pub proves-here : proves (caseOf K V ds) (w .base) (reading w) ≡ proves (caseOf K V ds) (base es) (periods-read es)
   proves-here = ap (λ b. proves (caseOf K V ds) b (reading w)) (tr .since) ∙ ap (proves (caseOf K V ds) (base es)) (tr .read)

@@ -56,7 +56,7 @@ window-paired r = sym (r .options .ok .0) ∙ r .paired ∙ r .rows .ok .0
 
 -- what the walk through the options of a window, as a list of its own, says of the window
 module _ (w : Window) (K : ℕ → ℕ) (V : ℕ → ℕ → ℕ) (d first self : ℕ) (walked : List ℕ) (same : walked ≡ w .options) (paired : length (w .options) ≡ length (w .rows))
-  (begins : first ≡ live-from w) where
+    (begins : first ≡ live-from w) where
   long : length walked ≡ length (w .rows)
   long = ap length same ∙ paired
 

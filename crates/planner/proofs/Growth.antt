@@ -34,6 +34,7 @@ row-grown c lawful w v K V d h m g = elim (cases-lt 0 d) [
   where
     newest : RowOf c (reading w) (rowAfter w (length (w .rows)))
     newest = h .told (length (w .rows)) (omega arith)
+
     demanded : g .row .demanded ≡ over (c .demand) 1 (suc (reading w))
     demanded = omega (arith, g .demanded, newest .demanded, over-step (c .demand) 1 (reading w) (omega arith), m .demand)
 

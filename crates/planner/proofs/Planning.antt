@@ -59,7 +59,7 @@ reading-more K V lawful ds ending l m e f w v n d r is rest same g =
 
 -- what a feed that is read to its end comes to
 module _ (K : ℕ → ℕ) (V : ℕ → ℕ → ℕ) (ds : List ℕ) (ending : Ending FeedFault) (l : List ℕ) (e : Ending FeedFault) (w : Window) (n : ℕ)
-  (r : Reading K V ds ending l e w n) (room : n < 256) (none : l ≡ []) where
+    (r : Reading K V ds ending l e w n) (room : n < 256) (none : l ≡ []) where
   all-read : n ≡ length ds
   all-read = none-left ds l n (r .within) (r .left) none
 

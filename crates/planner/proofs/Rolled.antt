@@ -42,18 +42,17 @@ closing-terms c t b (y ∷ ys) r k =
     ∙ ap (map (handed Closing t)) (sym (rest-by-lot c t b .1 (handedLot y .lot) (r .0)))
 
 module _ (K : ℕ → ℕ) (V : ℕ → ℕ → ℕ) (ds : List ℕ) (ending : Ending FeedFault) (refusal : ReadRefusal) (now : List code.Lot) (w : Window)
-  (f : FrozenAs K V ds ending [] refusal now w) where
+    (f : FrozenAs K V ds ending [] refusal now w) where
   -- a feed that came to its end
   pub rolled-whole : refusal ≡ FeedEnded → (closing all : List code.Lot) → all ≡ now ++ closing →
       ((c : Case) → Describes c w → Rests c (reading w) (w .base) (map handedLot closing)) → Every (λ y. y .kind ≡ Closing) closing →
       (map terms all ≡ rolledLots K V ds ending) × (None ≡ rolledStop K V ds ending)
   rolled-whole ended closing all joined rests kinds =
       let c : Case = caseOf K V ds in
-      let rest = closing-terms c (reading w) (w .base) closing (rests c (f .describes)) kinds in
-      (
+      let rest = closing-terms c (reading w) (w .base) closing (rests c (f .describes)) kinds in (
         ap (map terms) joined ∙ map-append terms now closing ∙ ap₂ (λ (xs ys : List Terms). xs ++ ys) (f .listed) rest
-        ∙ ap (λ r. map frozenTerms (f .taken) ++ closingTerms c (reading w) (w .base) (readRefusal r)) (sym ended)
-        ∙ ap (λ (o : Outcome FeedFault). map frozenTerms (o .lots) ++ closingTerms c (o .read) (o .base) (o .stop)) (sym (f .eagerly)),
+            ∙ ap (λ r. map frozenTerms (f .taken) ++ closingTerms c (reading w) (w .base) (readRefusal r)) (sym ended)
+            ∙ ap (λ (o : Outcome FeedFault). map frozenTerms (o .lots) ++ closingTerms c (o .read) (o .base) (o .stop)) (sym (f .eagerly)),
         ap (λ r. stopOf (readRefusal r)) (sym ended) ∙ ap (λ (o : Outcome FeedFault). stopOf (o .stop)) (sym (f .eagerly)),
       )
 
@@ -61,10 +60,9 @@ module _ (K : ℕ → ℕ) (V : ℕ → ℕ → ℕ) (ds : List ℕ) (ending : E
   pub rolled-part : (refusal ≡ FeedEnded → ⊥) → (map terms now ≡ rolledLots K V ds ending) × (Some refusal ≡ rolledStop K V ds ending)
   rolled-part apart =
       let c : Case = caseOf K V ds in
-      let o = other refusal apart in
-      (
+      let o = other refusal apart in (
         f .listed ∙ sym (append-nil (map frozenTerms (f .taken))) ∙ ap (λ (xs : List Terms). map frozenTerms (f .taken) ++ xs) (sym (o .0))
-        ∙ ap (λ (x : Outcome FeedFault). map frozenTerms (x .lots) ++ closingTerms c (x .read) (x .base) (x .stop)) (sym (f .eagerly)),
+            ∙ ap (λ (x : Outcome FeedFault). map frozenTerms (x .lots) ++ closingTerms c (x .read) (x .base) (x .stop)) (sym (f .eagerly)),
         o .1 ∙ ap (λ (x : Outcome FeedFault). stopOf (x .stop)) (sym (f .eagerly)),
       )
     where

@@ -116,6 +116,7 @@ module _ (c : Case) (lawful : Lawful c) (modest : Modest c) where
     where
       priced : (i : ℕ) → a ≤ i → i < a + n → c .demand i * c .price a i ≤ 1000000000000
       priced i p q = mul-le-mul (modest i) (lawful .price-fits a i l p (omega arith))
+
       near : over (λ i. c .demand i * c .price a i) a b ≤ n * 1000000000000
       near = over-bound (λ i. c .demand i * c .price a i) a 1000000000000 n b m (λ i p q. priced i p (omega arith))
 

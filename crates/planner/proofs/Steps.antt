@@ -19,6 +19,7 @@ idle-period c w t none = go (last c (suc t)) (last c t) refl refl
   where
     same : (j : ℕ) → j < t → lot-cost c (suc j) (suc t) ≡ lot-cost c (suc j) t
     same j l = lot-cost-step c (suc j) t (omega arith) ∙ rw none (omega arith)
+
     go : (a b : ℕ) → last c (suc t) ≡ a → last c t ≡ b → (least c (suc t) ≡ least c t) × (last c (suc t) ≡ last c t)
     go zero b p q =
         let z : over (c .demand) 1 t ≡ 0 = omega (arith, idle-of-last c (suc t) p, over-step (c .demand) 1 t (omega arith)) in
@@ -81,17 +82,20 @@ module _ (c : Case) (w : Window) (h : Describes c w) (K : ℕ → ℕ) (V : ℕ 
       let made : 1 ≤ last c (suc t) = positive (last c (suc t)) refl in
       let is : cost ≡ least c (w .base + place) + lot-cost c (suc (w .base + place)) (suc t) = cost-is in
       let picked = window-picks c from (suc t) (w .base + place) (omega arith) (omega (arith, ch .from-first, h .inside)) (omega (arith, ch .within))
-          (λ i a b. omega (arith, is, below i (omega (arith, h .inside)) (omega arith) (omega arith)))
-          (λ i a b. omega (arith, is, above i (omega arith) (omega arith))) in
+      (λ i a b. omega (arith, is, below i (omega (arith, h .inside)) (omega arith) (omega arith)))
+      (λ i a b. omega (arith, is, above i (omega arith) (omega arith))) in
       (picked .0, picked .1 ∙ sym is)
     where
       positive : (n : ℕ) → last c (suc (reading w)) ≡ n → 1 ≤ last c (suc (reading w))
       positive zero e = omega (arith, idle-of-last c (suc (reading w)) e, over-step (c .demand) 1 (reading w) (omega arith), m .demand)
       positive (suc n) e = omega arith
+
       enters : live-from w ≡ last c (reading w) - 1 - w .base
       enters = ap (λ x. x - 1 - w .base) (newest .last)
+
       is-live : (k : ℕ) → live-from w ≤ k → last c (reading w) ≤ suc (w .base + k)
       is-live k l = omega (arith, enters)
+
       cost-is : cost ≡ least c (w .base + place) + lot-cost c (suc (w .base + place)) (suc (reading w))
       cost-is = elim (cases-lt place (length (w .rows))) [
         | inl l ↦ ch .is-option l ∙ raised-is place l (is-live place (ch .from-first))
@@ -99,6 +103,7 @@ module _ (c : Case) (w : Window) (h : Describes c w) (K : ℕ → ℕ) (V : ℕ 
             let e : place ≡ length (w .rows) = omega (arith, ch .within) in
             ch .is-own e ∙ own-is ∙ ap (λ k. least c (w .base + k) + lot-cost c (suc (w .base + k)) (suc (reading w))) (sym e)
       ]
+
       below : (i : ℕ) → w .base ≤ i → last c (reading w) ≤ suc i → i < suc (reading w) → cost ≤ least c i + lot-cost c (suc i) (suc (reading w))
       below i b l u = elim (cases-lt i (reading w)) [
         | inl s ↦
@@ -110,6 +115,7 @@ module _ (c : Case) (w : Window) (h : Describes c w) (K : ℕ → ℕ) (V : ℕ 
             let e : reading w ≡ i = omega arith in
             subst (λ n. cost ≤ least c n + lot-cost c (suc n) (suc (reading w))) e (omega (arith, own-is, ch .no-dearer))
       ]
+
       above : (i : ℕ) → w .base + place < i → i < suc (reading w) → cost < least c i + lot-cost c (suc i) (suc (reading w))
       above i l u = elim (cases-lt i (reading w)) [
         | inl s ↦

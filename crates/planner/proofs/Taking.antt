@@ -97,7 +97,7 @@ as-handed : Terms → Handed
 as-handed t = record { lot = record { from = t .from; through = t .through; amount = t .amount; costs = t .cost }; evidence = t .evidence }
 
 module _ (K : ℕ → ℕ) (V : ℕ → ℕ → ℕ) (ds : List ℕ) (ending : Ending FeedFault) (es : List (Entry FeedFault)) (w : Window) (left : List ℕ) (end : Ending FeedFault)
-  (tr : Tracks K V ds ending es w left end) where
+    (tr : Tracks K V ds ending es w left end) where
   pub untaken : TellsProved w None → Refused None-proved ≡ due-answer K V ds ending es Take
   unfolding due-at due-take
   untaken h = sym (ap (due-take (periods-read es)) (none-behind _ (proved-here K V ds ending es w left end tr None h)))

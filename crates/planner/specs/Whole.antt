@@ -30,4 +30,3 @@ wholePlan K V ds Finished = cond (leb 256 (length ds)) (Err WindowFull) (Ok (map
 abbrev pub PlannedAs : Result (List Terms) PlanRefusal → Result (Vec Lot Global) PlanRefusal → Type 0
 PlannedAs due (Ok lots) = Ok (map terms (vec-items lots)) ≡ due
 PlannedAs due (Err e) = (e ≡ Memory) ⊎ (Err e ≡ due)
-

@@ -22,7 +22,11 @@ pub struct Planned {
 }
 
 // Freezes lot after lot while the feed lasts; at its end the rest of the plan follows as closing lots.
-pub fn plan_forecast<F: Feed + Drop, M: CostModel + Drop>(heap: Global, feed: F, model: M) -> Result<Planned, AllocError>
+pub fn plan_forecast<F: Feed + Drop, M: CostModel + Drop>(
+    heap: Global,
+    feed: F,
+    model: M,
+) -> Result<Planned, AllocError>
     ensures { λ r. ⌜ made r (λ p. (map terms (vec-items (p .lots)) ≡ rolledLots (M·CostModel .K model) (M·CostModel .V model) (F·Feed .demands feed) (F·Feed .ending feed)) × (p .stop ≡ rolledStop (M·CostModel .K model) (M·CostModel .V model) (F·Feed .demands feed) (F·Feed .ending feed))) ⌝ }
 {
     let mut planner = Planner::open(heap, feed, model)?;
@@ -41,7 +45,10 @@ pub fn plan_forecast<F: Feed + Drop, M: CostModel + Drop>(heap: Global, feed: F,
 }
 
 // Reads and takes until a read is refused, and tells why.
-fn freeze_all<F: Feed, M: CostModel>(planner: &mut Planner<F, M>, lots: &mut Vec<Lot>) -> Result<ReadRefusal, AllocError>
+fn freeze_all<F: Feed, M: CostModel>(
+    planner: &mut Planner<F, M>,
+    lots: &mut Vec<Lot>,
+) -> Result<ReadRefusal, AllocError>
     ensures { λ r. ⌜ made r (λ refusal. FrozenAll (M·CostModel .K (now (planner .entry) .model)) (M·CostModel .V (now (planner .entry) .model)) (now (planner .entry)) (F·Feed .demands (now (planner .entry) .feed)) (F·Feed .ending (now (planner .entry) .feed)) (vec-items (now (lots .entry))) refusal (vec-items (now (lots .exit))) (now (planner .exit))) ⌝ }
 {
     loop {

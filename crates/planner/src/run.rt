@@ -12,7 +12,12 @@ use std::alloc::AllocError;
 use std::alloc::Global;
 
 // Opens a planner, makes the calls in their order, refused ones among them, and then closes and empties it.
-pub fn run_series<F: Feed + Drop, M: CostModel + Drop>(heap: Global, feed: F, model: M, calls: &[Call]) -> Result<Series, AllocError>
+pub fn run_series<F: Feed + Drop, M: CostModel + Drop>(
+    heap: Global,
+    feed: F,
+    model: M,
+    calls: &[Call],
+) -> Result<Series, AllocError>
     ensures { λ r. ⌜ made r (λ s. Obeys (M·CostModel .K model) (M·CostModel .V model) (F·Feed .demands feed) (F·Feed .ending feed) (now (calls .entry)) s) ⌝ }
 {
     let mut planner = Planner::open(heap, feed, model)?;

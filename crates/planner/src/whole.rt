@@ -24,7 +24,11 @@ use std::alloc::AllocError;
 use std::alloc::Global;
 
 // The cheapest plan of everything that the feed hands out, as closing lots.
-pub fn cheapest_plan<F: Feed + Drop, M: CostModel>(heap: Global, mut feed: F, model: &M) -> Result<Vec<Lot>, PlanRefusal>
+pub fn cheapest_plan<F: Feed + Drop, M: CostModel>(
+    heap: Global,
+    mut feed: F,
+    model: &M,
+) -> Result<Vec<Lot>, PlanRefusal>
     ensures { λ r. ⌜ PlannedAs (wholePlan (M·CostModel .K (now (model .entry))) (M·CostModel .V (now (model .entry))) (F·Feed .demands feed) (F·Feed .ending feed)) r ⌝ }
 {
     let mut rows = Rows::new(heap)?;

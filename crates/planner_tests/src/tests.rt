@@ -43,12 +43,25 @@ fn calls(heap: Global, letters: &[u8]) -> Result<Vec<Call>, AllocError> {
     Ok(calls)
 }
 
-fn series<F: Feed + Drop, M: CostModel + Drop>(heap: Global, feed: F, model: M, letters: &[u8]) -> Result<Series, AllocError> {
+fn series<F: Feed + Drop, M: CostModel + Drop>(
+    heap: Global,
+    feed: F,
+    model: M,
+    letters: &[u8],
+) -> Result<Series, AllocError> {
     run_series(heap, feed, model, &calls(heap, letters)?)
 }
 
 // The answer of a call is this lot.
-fn gives(series: &Series, call: usize, from: u32, through: u32, amount: u32, cost: u64, evidence: u32) -> Result<(), Fail> {
+fn gives(
+    series: &Series,
+    call: usize,
+    from: u32,
+    through: u32,
+    amount: u32,
+    cost: u64,
+    evidence: u32,
+) -> Result<(), Fail> {
     let Some(entry) = series.entries.get(call) else {
         return Err(Fail::new("no such call"));
     };
@@ -58,7 +71,14 @@ fn gives(series: &Series, call: usize, from: u32, through: u32, amount: u32, cos
     is_lot(lot, from, through, amount, cost, evidence)
 }
 
-fn is_lot(lot: Lot, from: u32, through: u32, amount: u32, cost: u64, evidence: u32) -> Result<(), Fail> {
+fn is_lot(
+    lot: Lot,
+    from: u32,
+    through: u32,
+    amount: u32,
+    cost: u64,
+    evidence: u32,
+) -> Result<(), Fail> {
     check_eq(lot.from, from)?;
     check_eq(lot.through, through)?;
     check_eq(lot.amount, amount)?;
@@ -76,7 +96,12 @@ fn proves_none(series: &Series, call: usize) -> Result<(), Fail> {
 
 #[test]
 fn a_lot_is_frozen_once_it_is_proved(rt: LibcRuntime) -> Result<(), Fail> {
-    let s = series(rt.alloc(), TextFeed::new(b"1,4\n2,3\n3,8\nend\n"), tens()?, b"rtrtrt")?;
+    let s = series(
+        rt.alloc(),
+        TextFeed::new(b"1,4\n2,3\n3,8\nend\n"),
+        tens()?,
+        b"rtrtrt",
+    )?;
     proves_none(&s, 1)?;
     proves_none(&s, 3)?;
     gives(&s, 5, 1, 2, 7, 13, 3)
@@ -84,15 +109,30 @@ fn a_lot_is_frozen_once_it_is_proved(rt: LibcRuntime) -> Result<(), Fail> {
 
 #[test]
 fn ties_go_to_the_later_setup(rt: LibcRuntime) -> Result<(), Fail> {
-    let nine = series(rt.alloc(), TextFeed::new(b"1,4\n2,9\nend\n"), tens()?, b"rrt")?;
+    let nine = series(
+        rt.alloc(),
+        TextFeed::new(b"1,4\n2,9\nend\n"),
+        tens()?,
+        b"rrt",
+    )?;
     proves_none(&nine, 2)?;
-    let ten = series(rt.alloc(), TextFeed::new(b"1,4\n2,10\nend\n"), tens()?, b"rrt")?;
+    let ten = series(
+        rt.alloc(),
+        TextFeed::new(b"1,4\n2,10\nend\n"),
+        tens()?,
+        b"rrt",
+    )?;
     gives(&ten, 2, 1, 1, 4, 10, 2)
 }
 
 #[test]
 fn the_set_proves_before_a_setup_in_the_last_period(rt: LibcRuntime) -> Result<(), Fail> {
-    let s = series(rt.alloc(), TextFeed::new(b"1,4\n2,9\n3,5\n4,3\n5,4\nend\n"), tens()?, b"rtrtrtrtrtt")?;
+    let s = series(
+        rt.alloc(),
+        TextFeed::new(b"1,4\n2,9\n3,5\n4,3\n5,4\nend\n"),
+        tens()?,
+        b"rtrtrtrtrtt",
+    )?;
     proves_none(&s, 7)?;
     gives(&s, 9, 1, 1, 4, 10, 5)?;
     proves_none(&s, 10)?;
@@ -103,13 +143,23 @@ fn the_set_proves_before_a_setup_in_the_last_period(rt: LibcRuntime) -> Result<(
 
 #[test]
 fn idle_periods_belong_to_no_lot(rt: LibcRuntime) -> Result<(), Fail> {
-    let s = series(rt.alloc(), TextFeed::new(b"1,0\n2,0\n3,5\n4,10\nend\n"), tens()?, b"rrrrt")?;
+    let s = series(
+        rt.alloc(),
+        TextFeed::new(b"1,0\n2,0\n3,5\n4,10\nend\n"),
+        tens()?,
+        b"rrrrt",
+    )?;
     gives(&s, 4, 3, 3, 5, 10, 4)
 }
 
 #[test]
 fn two_lots_can_wait_at_one_period(rt: LibcRuntime) -> Result<(), Fail> {
-    let s = series(rt.alloc(), TextFeed::new(b"1,4\n2,9\n3,5\n4,3\n5,100\nend\n"), tens()?, b"rrrrrrttt")?;
+    let s = series(
+        rt.alloc(),
+        TextFeed::new(b"1,4\n2,9\n3,5\n4,3\n5,100\nend\n"),
+        tens()?,
+        b"rrrrrrttt",
+    )?;
     let Some(waits) = s.entries.get(5) else {
         return Err(Fail::new("no such call"));
     };
@@ -121,7 +171,12 @@ fn two_lots_can_wait_at_one_period(rt: LibcRuntime) -> Result<(), Fail> {
 
 #[test]
 fn a_fault_is_told_again_and_again(rt: LibcRuntime) -> Result<(), Fail> {
-    let s = series(rt.alloc(), TextFeed::new(b"1,4\n2,3\n4,8\nend\n"), tens()?, b"rrrrr")?;
+    let s = series(
+        rt.alloc(),
+        TextFeed::new(b"1,4\n2,3\n4,8\nend\n"),
+        tens()?,
+        b"rrrrr",
+    )?;
     for call in 2..5usize {
         let Some(entry) = s.entries.get(call) else {
             return Err(Fail::new("no such call"));

@@ -6,10 +6,10 @@ ghost use Rattle.std.specs.Of.Vec.{vec-len, vec-items};
 ghost use Rattle.std.specs.Vec.{made};
 ghost use Rattle.planner.specs.Describing.{rowAfter, reading, Grown};
 ghost use Rattle.planner.specs.Windows.{window, empty};
-use crate::rows::row::Row;
 use crate::rows::Rows;
 use crate::rows::WINDOW;
 use crate::rows::options::raise;
+use crate::rows::row::Row;
 use costs::CostModel;
 use std::alloc::AllocError;
 use std::alloc::Global;
@@ -21,8 +21,17 @@ impl Rows {
     {
         let rows = Vec::with_capacity(heap, WINDOW)?;
         let options = Vec::with_capacity(heap, WINDOW)?;
-        let before = Row { demanded: 0, least: 0, last: 0 };
-        Ok(Rows { base: 0, before, rows, options })
+        let before = Row {
+            demanded: 0,
+            least: 0,
+            last: 0,
+        };
+        Ok(Rows {
+            base: 0,
+            before,
+            rows,
+            options,
+        })
     }
 
     // Where the window begins.

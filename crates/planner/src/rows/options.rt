@@ -14,7 +14,14 @@ pub struct Choice {
 
 // Adds to each option from the first on what the next period's demand costs if it is made there, and chooses among them and
 // the next period's own option. Ties go to the latest setup, so the walk goes back in time and only a cheaper option wins.
-pub fn raise<M: CostModel>(options: &mut [u64], first: usize, base: u32, demand: u32, own: u64, model: &M) -> Choice
+pub fn raise<M: CostModel>(
+    options: &mut [u64],
+    first: usize,
+    base: u32,
+    demand: u32,
+    own: u64,
+    model: &M,
+) -> Choice
     requires short { ⌜ length (now options) < 256 ⌝ }
     requires few { ⌜ base + length (now options) < 10000 ⌝ }
     requires small { ⌜ demand ≤ 1000000 ⌝ }
@@ -25,7 +32,10 @@ pub fn raise<M: CostModel>(options: &mut [u64], first: usize, base: u32, demand:
     ensures chosen { λ r. ⌜ Cheapest (λ k. getD (now (options .entry)) k 0 + demand * M·CostModel .V (now (model .entry)) (suc (base + k)) (suc (base + length (now (options .entry))))) first (length (now (options .entry))) own (r .cost) (r .place) ⌝ }
 {
     let period = base + options.len() as u32 + 1;
-    let mut best = Choice { cost: own, place: options.len() };
+    let mut best = Choice {
+        cost: own,
+        place: options.len(),
+    };
     for place in (first..options.len()).rev() {
         let price = model.price(base + place as u32 + 1, period).unwrap();
         let cost = options[place] + u64::from(demand) * price;

@@ -31,7 +31,10 @@ impl Rows {
             return None;
         }
         match self.next_span(last - 1, after) {
-            None => Some(Span { from: last, through: horizon }),
+            None => Some(Span {
+                from: last,
+                through: horizon,
+            }),
             earlier => earlier,
         }
     }

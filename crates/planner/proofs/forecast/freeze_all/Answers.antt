@@ -18,8 +18,7 @@ pub loop-lot-again-in-Continue· : need.loop-lot-again-in-Continue·
 loop-lot-again-in-Continue· g c =
     let told = c .in-Ok .ensures tt in
     let same = c .loop-lot .inv .0 in
-    let pushed = chosen _ _ _ _ (c .push .ensures .items) (ap isOk (c .in-Continue-push .was tt)) in
-    (
+    let pushed = chosen _ _ _ _ (c .push .ensures .items) (ap isOk (c .in-Continue-push .was tt)) in (
       told .model ∙ same,
       λ ds ending tr.
           eager-take _ _ ds ending _ _ _ _ _ (c .loop-lot .inv .1 ds ending tr) (c .in-Ok .lot) _ _ _ _
@@ -33,8 +32,7 @@ loop-lot-again g c =
     let kept = untaken .refused in
     let read = c .in-rest .ensures tt in
     let same = c .loop-lot .inv .0 in
-    let model = kept .model ∙ same in
-    (
+    let model = kept .model ∙ same in (
       read .model ∙ model,
       λ ds ending tr.
           let e = c .loop-lot .inv .1 ds ending tr in
@@ -44,7 +42,7 @@ loop-lot-again g c =
           _ _ _ _
           (follows-same _ _ _ _ _ _ _ _ _ _ _ _ _ _ _ _ (ap (g .M·CostModel .K) model) (ap (g .M·CostModel .V) model) (ap window (kept .rows))
           (ap (g .F·Feed .demands) (kept .feed)) (ap (g .F·Feed .ending) (kept .feed)) refl (read .follows))
-          (read .onward .0 ∙ ap (λ r. r .base) (kept .rows)) (read .onward .1 ∙ ap (λ r. suc (reading (window r))) (kept .rows)) 
+          (read .onward .0 ∙ ap (λ r. r .base) (kept .rows)) (read .onward .1 ∙ ap (λ r. suc (reading (window r))) (kept .rows))
           (omega (arith, c .read .last .self .rows .few, c .read .last .self .rows .rows .ok .0)),
     )
 

@@ -38,9 +38,9 @@ returns-in-FeedEnded g c =
     let made = c .in-Continue-planner .ensures tt .made in
     let emptied = c .in-Continue-closing .ensures tt in
     let joined = chosen _ _ _ _ (c .extend-from-slice .ensures .items) (ap isOk (c .in-Continue-extend-from-slice .was tt))
-        ∙ ap (λ (ys : List Lot). vec-items (c .freeze-all .last .lots) ++ ys) (c .deref .ensures .value) in
+    ∙ ap (λ (ys : List Lot). vec-items (c .freeze-all .last .lots) ++ ys) (c .deref .ensures .value) in
     let rests = subst₂ (λ q b. (d : Case) → Describes d (window q) → Rests d (reading (window q)) b (map handedLot (vec-items (c .in-Continue-closing .closing))))
-        (c .close-closed .ensures .rows) (c .close-closed .ensures .after) (emptied .rests) in
+    (c .close-closed .ensures .rows) (c .close-closed .ensures .after) (emptied .rests) in
     subst₂ (λ m f. (map terms (vec-items (c .extend-from-slice .last .self)) ≡ rolledLots (g .M·CostModel .K m) (g .M·CostModel .V m) (g .F·Feed .demands f) (g .F·Feed .ending f)) ×
     (None ≡ rolledStop (g .M·CostModel .K m) (g .M·CostModel .V m) (g .F·Feed .demands f) (g .F·Feed .ending f)))
     (made .1) (made .0)

@@ -24,11 +24,10 @@ pub loop-call-again : need.loop-call-again
 loop-call-again g c =
     let told = c .answer-answer .ensures in
     let same = c .loop-call .inv .0 in
-    let pushed = chosen _ _ _ _ (c .push .ensures .items) (ap isOk (c .in-Continue-push .was tt)) in
-    (
+    let pushed = chosen _ _ _ _ (c .push .ensures .items) (ap isOk (c .in-Continue-push .was tt)) in (
       told .model ∙ same,
       running-more _ _ _ _ _ _ _ _ _ _ _ _ _ _ _ _ (c .loop-call .inv .1) (c .loop-call-test .taken) (getD-default _ _ _ _ (c .loop-call-test .taken))
-      (follows-costs _ _ _ _ _ _ _ _ _ _ _ _ (ap (g .M·CostModel .K) same) (ap (g .M·CostModel .V) same) (told .follows)) (told .frozen) pushed,
+          (follows-costs _ _ _ _ _ _ _ _ _ _ _ _ (ap (g .M·CostModel .K) same) (ap (g .M·CostModel .V) same) (told .follows)) (told .frozen) pushed,
     )
 
 pub returns : need.returns

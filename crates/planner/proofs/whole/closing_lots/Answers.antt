@@ -31,8 +31,7 @@ loop-span-less c = omega (arith, onward (need.at·loop-span-less c .In-Some), c 
 pub loop-span-again : need.loop-span-again
 loop-span-again c =
     let pushed = chosen _ _ _ _ (c .push .ensures .items) (ap isOk (c .in-Continue-push .was tt)) in
-    let listed = ap (map terms) pushed ∙ map-push terms (vec-items (c .loop-span .lots)) (c .lot .result) in
-    (
+    let listed = ap (map terms) pushed ∙ map-push terms (vec-items (c .loop-span .lots)) (c .lot .result) in (
       omega (arith, onward (need.at·loop-span-again c .In-Some), c .loop-span .inv .0),
       λ d h.
           let t = reading (window (c .args .rows .now)) in

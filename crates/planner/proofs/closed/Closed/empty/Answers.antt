@@ -9,8 +9,7 @@ use Rattle.planner.proofs.closed.Closed.empty.Needs as need
 pub loop-lot-again : need.loop-lot-again
 loop-lot-again g c =
     let pushed = chosen _ _ _ _ (c .push .ensures .items) (ap isOk (c .in-Continue-push .was tt)) in
-    let told = c .in-Ok .ensures tt in
-    (
+    let told = c .in-Ok .ensures tt in (
       told .left .rows ∙ c .loop-lot .inv .0,
       rests-more _ _ (c .loop-lot .inv .0) _ _ _ (c .in-Ok .lot) _ _ (c .loop-lot .inv .1) (told .due) (told .left .after) pushed,
       subst (Every (λ y. y .kind ≡ Closing)) (sym pushed) (every-snoc _ _ _ (c .loop-lot .inv .2) (told .closing)),

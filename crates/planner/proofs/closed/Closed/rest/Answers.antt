@@ -28,8 +28,7 @@ returns g c = record {
   closing = c .lot .ensures .kind;
   onward =
       let r = c .args .self .now .rows in
-      let sp = c .in-Some .ensures tt .spans in
-      (
+      let sp = c .in-Some .ensures tt .spans in (
         omega (arith, forward (window r) (r .sound) _ (spans-base (window r) _ _ (c .args .self .now .onward) sp), sp .later, c .lot .ensures .through),
         omega (arith, sp .read, c .lot .ensures .through),
       );

@@ -44,8 +44,7 @@ returns g c = record {
   onward =
       let r = c .args .self .now .rows in
       let t = told g (need.at·returns g c .In-Some) in
-      let through = c .lot-lot .ensures .through in
-      (
+      let through = c .lot-lot .ensures .through in (
         ap (λ w. w .base) (c .move-base .ensures) ∙ sym through,
         omega (arith, proved-strictly (window r) (r .sound) _ t),
         moved-reads (window r) (r .sound) _ t _ (c .move-base .ensures),

@@ -70,13 +70,24 @@ ghost-result c =
     let e = ends (need.at·ghost-result c .After-at-end) in
     let sp = c .pre .spans in
     let f = forward w (r .sound) (c .args .span) sp in
-    let read = c .read .ensures in
-    (
+    let read = c .read .ensures in (
       omega (arith, sp .later),
-      (f, (omega (arith, sp .read), (omega (arith, r .few, r .rows .ok .0), (omega (arith, sp .later, sp .read, r .narrow, r .rows .ok .0), (
-        omega (arith, e .begun),
-        (omega (arith, e .bounded), (omega (arith, e .affordable), (λ frozen. omega (arith, c .pre .settled frozen), tt))),
-      ))))),
+      (
+        f,
+        (
+          omega (arith, sp .read),
+          (
+            omega (arith, r .few, r .rows .ok .0),
+            (
+              omega (arith, sp .later, sp .read, r .narrow, r .rows .ok .0),
+              (
+                omega (arith, e .begun),
+                (omega (arith, e .bounded), (omega (arith, e .affordable), (λ frozen. omega (arith, c .pre .settled frozen), tt))),
+              ),
+            ),
+          ),
+        ),
+      ),
     )
 
 pub returns : need.returns

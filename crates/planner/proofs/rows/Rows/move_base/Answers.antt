@@ -30,10 +30,10 @@ moved c =
     let n : ℕ = c .args .through - r .base in
     let read = base-read r (c .args .through) (c .pre .inside) in
     let rows = c .truncate .ensures .items ∙ ap (take (c .len .result - n)) (c .rotate-left .ensures .items)
-        ∙ front-freed (vec-items (r .rows)) n (c .len .result - n) (omega (arith, r .rows .ok .0)) (omega (arith, r .rows .ok .0, c .len .ensures)) in
+    ∙ front-freed (vec-items (r .rows)) n (c .len .result - n) (omega (arith, r .rows .ok .0)) (omega (arith, r .rows .ok .0, c .len .ensures)) in
     let options = c .truncate-2 .ensures .items ∙ ap (take (c .len .result - n)) (c .rotate-left-2 .ensures .items)
-        ∙ front-freed (vec-items (r .options)) n (c .len .result - n) (omega (arith, r .rows .ok .0, r .options .ok .0, r .paired))
-        (omega (arith, r .rows .ok .0, r .options .ok .0, r .paired, c .len .ensures)) in
+    ∙ front-freed (vec-items (r .options)) n (c .len .result - n) (omega (arith, r .rows .ok .0, r .options .ok .0, r .paired))
+    (omega (arith, r .rows .ok .0, r .options .ok .0, r .paired, c .len .ensures)) in
     λ i. windowOf (c .args .through) (c .at-before .ensures i) (rows i) (options i)
 
 pub ghost-self : need.ghost-self
@@ -47,11 +47,19 @@ ghost-self c =
     let rows-turned = c .rotate-left .ensures .len in
     let rows-cut = c .truncate .ensures .len in
     let options-turned = c .rotate-left-2 .ensures .len in
-    let options-cut = c .truncate-2 .ensures .len in
-    (omega arith, (omega (arith, r .few), (omega (arith, r .narrow), (
-      omega (arith, r .room, c .rotate-left .ensures .capacity, c .truncate .ensures .capacity),
-      (omega (arith, r .«options_room», c .rotate-left-2 .ensures .capacity, c .truncate-2 .ensures .capacity), (sound, tt)),
-    ))))
+    let options-cut = c .truncate-2 .ensures .len in (
+      omega arith,
+      (
+        omega (arith, r .few),
+        (
+          omega (arith, r .narrow),
+          (
+            omega (arith, r .room, c .rotate-left .ensures .capacity, c .truncate .ensures .capacity),
+            (omega (arith, r .«options_room», c .rotate-left-2 .ensures .capacity, c .truncate-2 .ensures .capacity), (sound, tt)),
+          ),
+        ),
+      ),
+    )
 
 pub returns : need.returns
 returns c = moved (need.at·returns c .After-truncate-2)

@@ -7,8 +7,7 @@ use Rattle.planner.proofs.rows.Rows.new.Needs as need
 pub ghost-result : need.ghost-result
 ghost-result c =
     let rows = c .in-Continue-rows .ensures tt in
-    let options = c .in-Continue-options .ensures tt in
-    (
+    let options = c .in-Continue-options .ensures tt in (
       omega arith,
       (
         omega arith,

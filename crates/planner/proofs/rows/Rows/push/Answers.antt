@@ -48,11 +48,25 @@ grown-by-none g c =
 
 pub ghost-self : need.ghost-self
 ghost-self g c =
-    let grown = grown-by-none g (need.at·ghost-self g c .After-push-reserved-then-demand-eq0) in
-    (omega arith, (omega arith, (omega arith, (omega arith, (omega arith, (
-      ∥∥₁-map (c .args .self .now .sound) (sound-grown _ _ _ _ _ (g .M·CostModel·met .lawful (c .args .model .now)) (c .pre .small) grown),
-      tt,
-    ))))))
+    let grown = grown-by-none g (need.at·ghost-self g c .After-push-reserved-then-demand-eq0) in (
+      omega arith,
+      (
+        omega arith,
+        (
+          omega arith,
+          (
+            omega arith,
+            (
+              omega arith,
+              (
+                ∥∥₁-map (c .args .self .now .sound) (sound-grown _ _ _ _ _ (g .M·CostModel·met .lawful (c .args .model .now)) (c .pre .small) grown),
+                tt,
+              ),
+            ),
+          ),
+        ),
+      ),
+    )
 
 pub returns-then-demand-eq0 : need.returns-then-demand-eq0
 returns-then-demand-eq0 g c = grown-by-none g (need.at·returns-then-demand-eq0 g c .After-push-reserved-then-demand-eq0)
@@ -142,11 +156,25 @@ grown-by-some g c =
 pub ghost-self-2 : need.ghost-self-2
 ghost-self-2 g c =
     let r = c .args .self .now in
-    let grown = grown-by-some g (need.at·ghost-self-2 g c .After-push-reserved-3) in
-    (omega arith, (omega arith, (omega arith, (omega arith, (omega (arith, c .push-reserved-2 .ensures .capacity), (
-      ∥∥₁-map (r .sound) (sound-grown _ _ _ _ _ (g .M·CostModel·met .lawful (c .args .model .now)) (c .pre .small) grown),
-      tt,
-    ))))))
+    let grown = grown-by-some g (need.at·ghost-self-2 g c .After-push-reserved-3) in (
+      omega arith,
+      (
+        omega arith,
+        (
+          omega arith,
+          (
+            omega arith,
+            (
+              omega (arith, c .push-reserved-2 .ensures .capacity),
+              (
+                ∥∥₁-map (r .sound) (sound-grown _ _ _ _ _ (g .M·CostModel·met .lawful (c .args .model .now)) (c .pre .small) grown),
+                tt,
+              ),
+            ),
+          ),
+        ),
+      ),
+    )
 
 pub returns : need.returns
 returns g c = grown-by-some g (need.at·returns g c .After-push-reserved-3)
