@@ -67,7 +67,7 @@ impl<E: Refusal> Refusal for DatedFault<E> {
 
 // Whether each date is later than the one before it, and the first later than `last`.
 fn rises_after<L: DatedLine>(mut last: u32, lines: &[L]) -> bool
-    ensures { result ≡ rises_behind dated last lines.now }
+    ensures { result ≡ rises_behind L.dated last lines.now }
 {
     for line in lines {
         let date = line.date();
@@ -80,7 +80,7 @@ fn rises_after<L: DatedLine>(mut last: u32, lines: &[L]) -> bool
 }
 
 fn dates_right<L: DatedLine>(lines: &[L], first: FirstDate) -> bool
-    ensures { result ≡ are_dates_right dated first lines.now }
+    ensures { result ≡ are_dates_right L.dated first lines.now }
 {
     let [head, rest @ ..] = lines else {
         return true;
@@ -90,7 +90,7 @@ fn dates_right<L: DatedLine>(lines: &[L], first: FirstDate) -> bool
 }
 
 fn first_earned<L: DatedLine>(lines: &[L]) -> Option<L::Fault>
-    ensures { result ≡ earned_first earned lines.now }
+    ensures { result ≡ earned_first L.earned lines.now }
 {
     for line in lines {
         if let Some(fault) = line.fault() {
@@ -107,7 +107,7 @@ pub fn check_dated<L: DatedLine>(
     most: usize,
     first: FirstDate,
 ) -> Result<(), DatedFault<L::Fault>>
-    ensures { result_err result ≡ dated_fault dated earned fewest most first lines.now }
+    ensures { result_err result ≡ dated_fault L.dated L.earned fewest most first lines.now }
 {
     if lines.len() < fewest || lines.len() > most {
         return Err(DatedFault::Count);

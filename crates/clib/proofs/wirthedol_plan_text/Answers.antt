@@ -6,5 +6,5 @@ use Rattle.clib.proofs.wirthedol_plan_text.Goals as goal
 
 pub returns : goal.returns
 returns c =
-    c.hand-over.ensures _
-    (subst (λ (f : Forecast). Told vec_items c.plan-file-file.result (file_due c.args.costs.now c.args.netting.now f)) c.new.ensures.whole c.plan-file-file.ensures)
+    c.hand_over.ensures _
+    (subst (λ (f : Forecast). Told vec_items c.plan_file-file.result (file_due c.args.costs.now c.args.netting.now f)) c.new.ensures.whole c.plan_file-file.ensures)

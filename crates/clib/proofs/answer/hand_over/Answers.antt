@@ -7,7 +7,7 @@ use Rattle.clib.proofs.answer.hand_over.Goals as goal
 
 pub returns-in-Err : goal.returns-in-Err
 returns-in-Err c due told =
-    subst (λ (a : Answer). Answered c.args.out.now due a c.args.out.now) (sym c.without-plan.ensures)
+    subst (λ (a : Answer). Answered c.args.out.now due a c.args.out.now) (sym c.without_plan.ensures)
     (handed_error c.args.out.now due c.in-Err.error (subst (λ r. Told vec_items r due) c.in-Err.is told))
 
 pub returns-then-written-out : goal.returns-then-written-out
@@ -19,5 +19,5 @@ returns-then-written-out c due told =
 pub returns : goal.returns
 returns c due told =
     let fits = c.if-written-out.false in
-    handed_whole c.args.out.now due c.in-Ok.bytes c.len-written.result c.copy-from-slice.new.self (search rules) (search rules)
-    (c.copy-from-slice.ensures.after ∙ c.deref.ensures.value) (subst (λ r. Told vec_items r due) c.in-Ok.is told)
+    handed_whole c.args.out.now due c.in-Ok.bytes c.len-written.result c.copy_from_slice.new.self (search rules) (search rules)
+    (c.copy_from_slice.ensures.after ∙ c.deref.ensures.value) (subst (λ r. Told vec_items r due) c.in-Ok.is told)

@@ -19,17 +19,17 @@ loop-rest-preserved c =
     let done : List CostLine = vec_items c.loop-rest.lines in
     c.loop-rest.invariant ∙ lines_more rest done (search rules)
     ∙ ap (λ (xs : List CostLine). then (lines_due (take (length rest - 4) (drop 4 rest))) (λ ls. Ok (xs ++ ls)))
-    (sym (c.in-ok-extend-from-slice.ensures.items
+    (sym (c.in_ok-extend_from_slice.ensures.items
     ∙ ap (λ (x : CostLine). done ++ x ∷ []) (same_line (get_or rest 0 0) _ _ _ _ _ _ c.from.ensures c.from-in-len4-up.ensures c.from-in-len4-up-2.ensures)))
 
-pub returns-then-not-is-empty : goal.returns-then-not-is-empty
-returns-then-not-is-empty c =
+pub returns-then-not-is_empty : goal.returns-then-not-is_empty
+returns-then-not-is_empty c =
     let rest : List ℕ = c.loop-rest.rest.now in
     c.loop-rest.invariant
     ∙ ap (λ (r : Result (List CostLine) Refusal). then r (λ ls. Ok (vec_items c.loop-rest.lines ++ ls)))
-    (lines_cut rest (eqb-false (length rest) 0 (sym c.if-not-is-empty.ensures)) (search rules))
+    (lines_cut rest (eqb-false (length rest) 0 (sym c.if-not-is_empty.ensures)) (search rules))
 
 pub returns : goal.returns
 returns c =
     let rest : List ℕ = c.loop-rest.rest.now in
-    c.loop-rest.invariant ∙ lines_end rest (vec_items c.loop-rest.lines) (eqb-true (length rest) 0 (sym c.if-not-is-empty.ensures))
+    c.loop-rest.invariant ∙ lines_end rest (vec_items c.loop-rest.lines) (eqb-true (length rest) 0 (sym c.if-not-is_empty.ensures))

@@ -6,10 +6,10 @@ use Rattle.lots.specs.Lots.{terms}
 use Rattle.clib.specs.Outcomes.{Told}
 use Rattle.clib.specs.Plans.{filed}
 
-pub returns-in-err-bytes : goal.returns-in-err-bytes
-returns-in-err-bytes c =
-    let p = err_from_is_err_and c.from-residual.result c.from-residual.ensures.1 in
-    subst (λ r. Told vec_items r (filed (map terms c.args.lots.now))) (sym (p.1 ∙ ap Err p.2)) (filed_error c.args.lots.now _ c.in-err-bytes.ensures)
+pub returns-in_err-bytes : goal.returns-in_err-bytes
+returns-in_err-bytes c =
+    let p = err_from_is_err_and c.from_residual.result c.from_residual.ensures.1 in
+    subst (λ r. Told vec_items r (filed (map terms c.args.lots.now))) (sym (p.1 ∙ ap Err p.2)) (filed_error c.args.lots.now _ c.in_err-bytes.ensures)
 
 pub returns : goal.returns
-returns c = filed_whole c.args.lots.now c.in-ok-bytes.bytes c.in-ok-bytes.ensures
+returns c = filed_whole c.args.lots.now c.in_ok-bytes.bytes c.in_ok-bytes.ensures

@@ -2,17 +2,17 @@ use Rattle.std.proofs.Common.{rules}
 use Rattle.clib.specs.Plans.{file_due}
 use Rattle.clib.proofs.planning.plan_file.Goals as goal
 
-pub returns-in-err-model : goal.returns-in-err-model
+pub returns-in_err-model : goal.returns-in_err-model
 unfolding file_due
-returns-in-err-model c = search rules
+returns-in_err-model c = search rules
 
-pub returns-in-err-netting : goal.returns-in-err-netting
+pub returns-in_err-netting : goal.returns-in_err-netting
 unfolding file_due
-returns-in-err-netting c = search rules
+returns-in_err-netting c = search rules
 
-pub returns-in-err-lots : goal.returns-in-err-lots
+pub returns-in_err-lots : goal.returns-in_err-lots
 unfolding file_due
-returns-in-err-lots c = search rules
+returns-in_err-lots c = search rules
 
 pub returns : goal.returns
 unfolding file_due

@@ -15,6 +15,6 @@ returns c =
       told =
           layer_from xs two enough ∙ ap (λ s. Ok (supplied s (receipts_of (take (2 * n) (drop 2 xs))) (drop (2 * n + 2) xs))) (sym c.from.ensures)
           ∙ ap (λ (rs : List Receipt). Ok (supplied c.from.result rs (drop (2 * n + 2) xs)))
-          (sym (c.in-ok-receipts.ensures ∙ ap (λ (ys : List ℕ). receipts_of (take (2 * n) ys)) (take_rest xs 2)));
+          (sym (c.in_ok-receipts.ensures ∙ ap (λ (ys : List ℕ). receipts_of (take (2 * n) ys)) (take_rest xs 2)));
       within = enough;
     }

@@ -13,7 +13,7 @@ loop-rest-preserved c =
     let done : List Receipt = vec_items c.loop-rest.receipts in
     c.loop-rest.invariant ∙ receipts_more rest done (search rules)
     ∙ ap (λ (xs : List Receipt). xs ++ receipts_of (take (length rest - 2) (drop 2 rest)))
-    (sym (c.in-ok-extend-from-slice.ensures.items ∙ ap (λ a. done ++ receipt (get_or rest 0 0) a ∷ []) c.from.ensures))
+    (sym (c.in_ok-extend_from_slice.ensures.items ∙ ap (λ a. done ++ receipt (get_or rest 0 0) a ∷ []) c.from.ensures))
 
 pub returns : goal.returns
 returns c = sym (c.loop-rest.invariant ∙ receipts_end c.loop-rest.rest.now (vec_items c.loop-rest.receipts) (search rules))

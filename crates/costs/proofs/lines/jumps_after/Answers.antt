@@ -4,8 +4,8 @@ use Rattle.costs.specs.Dated.{jumps_behind}
 use Rattle.costs.proofs.Jumps.{jumps_more, jumps_here}
 use Rattle.costs.proofs.lines.jumps_after.Goals as goal
 
-pub returns-then-saturating-sub-before : goal.returns-then-saturating-sub-before
-returns-then-saturating-sub-before c =
+pub returns-then-saturating_sub-before : goal.returns-then-saturating_sub-before
+returns-then-saturating_sub-before c =
     sym (jumps_here c.loop-line.before c.args.lines.now c.loop-line.line-index c.loop-line-test.true (omega arith)) ∙ c.loop-line.invariant
 
 pub loop-line-preserved : goal.loop-line-preserved

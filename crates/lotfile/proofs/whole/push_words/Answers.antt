@@ -7,7 +7,7 @@ use Rattle.lotfile.proofs.whole.push_words.Goals as goal
 pub loop-word-preserved : goal.loop-word-preserved
 loop-word-preserved c =
     words_pushed (vec_items c.args.out.now) _ _ c.args.words.now c.loop-word.word-index c.word-item.result _
-    c.loop-word-test.true c.loop-word.invariant c.word-item.is c.to-bytes-bytes.ensures c.in-ok-extend-from-slice.ensures.items
+    c.loop-word-test.true c.loop-word.invariant c.word-item.is c.to_bytes-bytes.ensures c.in_ok-extend_from_slice.ensures.items
 
 pub returns : goal.returns
 returns c =

@@ -12,7 +12,7 @@ pub loop-word-preserved : goal.loop-word-preserved
 loop-word-preserved c = (
   omega arith,
   word_put c.args.buffer.now _ _ _ _ _ c.args.words.now c.word-item.result _ c.requires c.loop-word-test.true
-      c.loop-word.invariant.0 c.loop-word.invariant.1 c.word-item.is (omega arith) (c.copy-from-slice.ensures.after ∙ c.to-bytes-bytes.ensures),
+      c.loop-word.invariant.0 c.loop-word.invariant.1 c.word-item.is (omega arith) (c.copy_from_slice.ensures.after ∙ c.to_bytes-bytes.ensures),
 )
 
 pub returns : goal.returns

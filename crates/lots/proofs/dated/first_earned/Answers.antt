@@ -10,7 +10,7 @@ returns-in-Some g c =
 
 pub loop-line-preserved : goal.loop-line-preserved
 loop-line-preserved g c =
-    sym (earned_more g.L.DatedLine.earned _ _ _ c.loop-line-test.true c.line-item.is c.in-default.ensures) ∙ c.loop-line.invariant
+    sym (earned_more g.L.DatedLine.earned _ _ _ c.loop-line-test.true c.line-item.is c.in_default.ensures) ∙ c.loop-line.invariant
 
 pub returns : goal.returns
 returns g c = sym (at_drop_all (earned_first g.L.DatedLine.earned) _ _ c.loop-line-test.false) ∙ c.loop-line.invariant

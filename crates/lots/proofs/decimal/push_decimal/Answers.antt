@@ -17,5 +17,5 @@ pub returns : goal.returns
 returns c =
     let inv = c.loop-left.invariant in
     let written = write_last _ _ _ _ inv.0 inv.1 c.loop-left-test.false inv.4 in
-    c.extend-from-slice.ensures.items
-    ∙ ap (λ l. cond (is_ok c.extend-from-slice.result) (vec_items c.args.out.now ++ l) (vec_items c.args.out.now)) (sym written)
+    c.extend_from_slice.ensures.items
+    ∙ ap (λ l. cond (is_ok c.extend_from_slice.result) (vec_items c.args.out.now ++ l) (vec_items c.args.out.now)) (sym written)

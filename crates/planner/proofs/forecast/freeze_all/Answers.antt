@@ -13,7 +13,7 @@ pub loop-lot-preserved-in-Continue· : goal.loop-lot-preserved-in-Continue·
 loop-lot-preserved-in-Continue· g c =
     let told = c.in-Ok.ensures in
     let same = c.loop-lot.invariant.0 in
-    let pushed = chosen _ _ _ _ c.push.ensures.items (ap is_ok c.in-ok-push.was) in (
+    let pushed = chosen _ _ _ _ c.push.ensures.items (ap is_ok c.in_ok-push.was) in (
       told.model ∙ same,
       λ ds ending tr.
           eager_take _ _ ds ending _ _ _ _ _ (c.loop-lot.invariant.1 ds ending tr) c.in-Ok.lot _ _ _ _
@@ -25,7 +25,7 @@ pub loop-lot-preserved : goal.loop-lot-preserved
 loop-lot-preserved g c =
     let untaken = c.in-Err.ensures in
     let kept = untaken.refused in
-    let read = c.in-default.ensures in
+    let read = c.in_default.ensures in
     let same = c.loop-lot.invariant.0 in
     let model = kept.model ∙ same in (
       read.model ∙ model,

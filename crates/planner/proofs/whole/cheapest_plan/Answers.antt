@@ -5,20 +5,20 @@ use Rattle.planner.proofs.Planning.{reading_none, reading_more, planned_fault, p
 use Rattle.planner.proofs.whole.cheapest_plan.Goals as goal
 
 pub loop-init : goal.loop-init
-loop-init g c = reading_none _ _ _ _ _ c.in-ok-rows.ensures
+loop-init g c = reading_none _ _ _ _ _ c.in_ok-rows.ensures
 
-pub returns-in-err-demand : goal.returns-in-err-demand
-returns-in-err-demand g c =
-    let p = err_from_is_err_and c.from-residual-in-err-demand.result c.from-residual-in-err-demand.ensures.1 in
-    let end = told_fault _ _ _ (sym c.in-err-demand.was ∙ c.next.ensures.told) in
+pub returns-in_err-demand : goal.returns-in_err-demand
+returns-in_err-demand g c =
+    let p = err_from_is_err_and c.from_residual-in_err-demand.result c.from_residual-in_err-demand.ensures.1 in
+    let end = told_fault _ _ _ (sym c.in_err-demand.was ∙ c.next.ensures.told) in
     rw (p.1, p.2) (inr (planned_fault _ _ _ _ _ _ _ _ c.loop.invariant c.loop-test.true end.0 _ end.1))
 
-pub returns-in-default : goal.returns-in-default
-returns-in-default g c =
-    let end = told_end _ _ (sym (ap Ok c.in-default.is) ∙ sym c.in-ok-demand.was ∙ c.next.ensures.told) in
-    planned_whole _ _ _ _ _ _ _ _ c.loop.invariant c.loop-test.true end.0 _ end.1 c.in-ok-closing-lots.ensures
+pub returns-in_default : goal.returns-in_default
+returns-in_default g c =
+    let end = told_end _ _ (sym (ap Ok c.in_default.is) ∙ sym c.in_ok-demand.was ∙ c.next.ensures.told) in
+    planned_whole _ _ _ _ _ _ _ _ c.loop.invariant c.loop-test.true end.0 _ end.1 c.in_ok-closing_lots.ensures
 
 pub loop-preserved : goal.loop-preserved
 loop-preserved g c =
-    let next = told_some _ _ _ (sym (ap Ok c.in-Some.is) ∙ sym c.in-ok-demand.was ∙ c.next.ensures.told) in
+    let next = told_some _ _ _ (sym (ap Ok c.in-Some.is) ∙ sym c.in_ok-demand.was ∙ c.next.ensures.told) in
     reading_more _ _ (g.met.M.CostModel.lawful c.args.model.now) _ _ _ _ _ _ _ _ _ _ c.loop.invariant next c.next.ensures.others c.next.ensures.ending c.push.ensures

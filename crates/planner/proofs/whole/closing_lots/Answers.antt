@@ -25,7 +25,7 @@ loop-span-smaller c = omega (arith, onward (goal.at.loop-span-smaller c).In-Some
 
 pub loop-span-preserved : goal.loop-span-preserved
 loop-span-preserved c =
-    let pushed = chosen _ _ _ _ c.push.ensures.items (ap is_ok c.in-ok-push.was) in
+    let pushed = chosen _ _ _ _ c.push.ensures.items (ap is_ok c.in_ok-push.was) in
     let listed = ap (map terms) pushed ∙ map_push terms (vec_items c.loop-span.lots) c.lot.result in (
       omega (arith, onward (goal.at.loop-span-preserved c).In-Some, c.loop-span.invariant.0),
       λ d h.
@@ -37,4 +37,4 @@ loop-span-preserved c =
     )
 
 pub returns : goal.returns
-returns c = λ d h. rest_done d _ _ _ _ _ (c.in-default.ensures.means d h ∙ ap (λ n. option_map span_of (next c.loop-span.after (plan d n))) c.read.ensures) (c.loop-span.invariant.1 d h)
+returns c = λ d h. rest_done d _ _ _ _ _ (c.in_default.ensures.means d h ∙ ap (λ n. option_map span_of (next c.loop-span.after (plan d n))) c.read.ensures) (c.loop-span.invariant.1 d h)

@@ -9,20 +9,20 @@ pub returns-then-input-gt-LONGEST : goal.returns-then-input-gt-LONGEST
 unfolding costs_due
 returns-then-input-gt-LONGEST c = record { told = sym (cond-true _ _ _ (lt-ltb _ _ c.if-input-gt-LONGEST.true)); within = tt }
 
-pub returns-in-default : goal.returns-in-default
+pub returns-in_default : goal.returns-in_default
 unfolding costs_due
-returns-in-default c =
-    record { told = ap costs_of_line c.in-default.ensures.told ∙ sym (cond-false _ _ _ (le-ltb _ _ c.if-input-gt-LONGEST.false)); within = tt }
+returns-in_default c =
+    record { told = ap costs_of_line c.in_default.ensures.told ∙ sym (cond-false _ _ _ (le-ltb _ _ c.if-input-gt-LONGEST.false)); within = tt }
 
-pub returns-in-err-model : goal.returns-in-err-model
+pub returns-in_err-model : goal.returns-in_err-model
 unfolding costs_due
-returns-in-err-model c =
-    let p = err_from_is_err_and c.from-residual.result c.from-residual.ensures.1 in
+returns-in_err-model c =
+    let p = err_from_is_err_and c.from_residual.result c.from_residual.ensures.1 in
     record {
       told =
-          ap costs_told p.1 ∙ ap Err p.2 ∙ costs_from_making c.in-Some.line _ c.in-err-model.ensures
+          ap costs_told p.1 ∙ ap Err p.2 ∙ costs_from_making c.in-Some.line _ c.in_err-model.ensures
           ∙ ap costs_of_line c.in-Some.ensures.told ∙ sym (cond-false _ _ _ (le-ltb _ _ c.if-input-gt-LONGEST.false));
-      within = IfOk-from_err _ _ c.from-residual.ensures.0;
+      within = IfOk-from_err _ _ c.from_residual.ensures.0;
     }
 
 pub returns : goal.returns
@@ -30,7 +30,7 @@ unfolding costs_due
 returns c =
     record {
       told =
-          costs_from_making c.in-Some.line _ c.in-ok-model.ensures
+          costs_from_making c.in-Some.line _ c.in_ok-model.ensures
           ∙ ap costs_of_line c.in-Some.ensures.told ∙ sym (cond-false _ _ _ (le-ltb _ _ c.if-input-gt-LONGEST.false));
       within = c.in-Some.ensures.within;
     }

@@ -9,18 +9,18 @@ use Rattle.report.specs.Planning.{lots_told}
 use Rattle.report.proofs.Counts.{Few, input_few}
 use Rattle.report.proofs.filing.lot_file.Goals as goal
 
-pub file-of-requires : goal.file-of-requires
-file-of-requires c =
-    let told = ap lots_told (sym c.in-Ok.is) ∙ c.in-ok-lots.ensures in
+pub file_of-requires : goal.file_of-requires
+file_of-requires c =
+    let told = ap lots_told (sym c.in-Ok.is) ∙ c.in_ok-lots.ensures in
     let few = subst Few (sym told) (input_few (forecast 0 0) c.args.input.now) in
     omega (arith, few, length-map (vec_items c.in-Ok.lots) terms, ap (λ (xs : List Lot). length xs) c.deref.ensures.value)
 
-pub returns-in-ok-file-of : goal.returns-in-ok-file-of
+pub returns-in_ok-file_of : goal.returns-in_ok-file_of
 unfolding file_due
-returns-in-ok-file-of c =
-    ap Ok (c.in-ok-file-of.ensures ∙ ap (λ (xs : List Lot). file_bytes (map terms xs)) c.deref.ensures.value)
-    ∙ ap (λ p. file_of_plan (lots_told p)) (sym c.in-Ok.is) ∙ ap file_of_plan c.in-ok-lots.ensures
+returns-in_ok-file_of c =
+    ap Ok (c.in_ok-file_of.ensures ∙ ap (λ (xs : List Lot). file_bytes (map terms xs)) c.deref.ensures.value)
+    ∙ ap (λ p. file_of_plan (lots_told p)) (sym c.in-Ok.is) ∙ ap file_of_plan c.in_ok-lots.ensures
 
 pub returns-in-Err : goal.returns-in-Err
 unfolding file_due
-returns-in-Err c = ap (λ p. file_of_plan (lots_told p)) (sym c.in-Err.is) ∙ ap file_of_plan c.in-ok-lots.ensures
+returns-in-Err c = ap (λ p. file_of_plan (lots_told p)) (sym c.in-Err.is) ∙ ap file_of_plan c.in_ok-lots.ensures

@@ -8,5 +8,5 @@ pub returns : goal.returns
 returns c =
     let out = vec_items c.args.out.now in
     let n = c.args.n in
-    let space = pushed {xs = out} (32 ∷ []) refl c.in-ok-push.was c.push.ensures.items in
-    written c.push-decimal.result (decimal n) (out ++ spaced n) space c.push-decimal.ensures (append_assoc out (32 ∷ []) (decimal n))
+    let space = pushed {xs = out} (32 ∷ []) refl c.in_ok-push.was c.push.ensures.items in
+    written c.push_decimal.result (decimal n) (out ++ spaced n) space c.push_decimal.ensures (append_assoc out (32 ∷ []) (decimal n))

@@ -3,8 +3,8 @@ use Rattle.std.proofs.lemmas.Result.{IfOk-weaker}
 use Rattle.report.proofs.Totals.{total_next, lines_next, lines_all}
 use Rattle.report.proofs.print.push_plan.Goals as goal
 
-pub overflow-add-sum : goal.overflow-add-sum
-overflow-add-sum c =
+pub overflow_add-sum : goal.overflow_add-sum
+overflow_add-sum c =
     omega (arith, c.requires, c.loop-lot.invariant.0, total_next c.args.lots.now c.loop-lot.lot-index c.lot-item.result (omega arith) c.lot-item.is)
 
 pub loop-lot-preserved : goal.loop-lot-preserved
@@ -13,11 +13,11 @@ loop-lot-preserved c =
     let i = c.loop-lot.lot-index in
     let y = c.lot-item.result in (
       omega (arith, c.loop-lot.invariant.0, total_next lots i y (omega arith) c.lot-item.is),
-      lines_next lots i y _ _ _ (omega arith) c.lot-item.is c.in-ok-push-lot-line.ensures c.loop-lot.invariant.1,
+      lines_next lots i y _ _ _ (omega arith) c.lot-item.is c.in_ok-push_lot_line.ensures c.loop-lot.invariant.1,
     )
 
 pub returns : goal.returns
 returns c =
-    IfOk-weaker c.push-total-line.result _ _
+    IfOk-weaker c.push_total_line.result _ _
     (λ _ e. e ∙ lines_all c.args.lots.now c.loop-lot.lot-index c.loop-lot.sum _ _ (omega arith) c.loop-lot.invariant.0 c.loop-lot.invariant.1)
-    c.push-total-line.ensures
+    c.push_total_line.ensures

@@ -10,11 +10,11 @@ loop-letter-init c = behind_none (calls_of c.args.letters.now) ∙ ap (λ (ks : 
 pub loop-letter-preserved : goal.loop-letter-preserved
 loop-letter-preserved c =
     letter_more c.args.letters.now c.loop-letter.letter-index c.loop-letter-test.true c.in-Some.call _ _ (sym c.in-Some.ensures)
-    c.in-ok-push.ensures.items c.loop-letter.invariant
+    c.in_ok-push.ensures.items c.loop-letter.invariant
 
-pub returns-in-default : goal.returns-in-default
-returns-in-default c =
-    letter_other c.args.letters.now c.loop-letter.letter-index c.loop-letter-test.true _ (sym c.in-default.ensures) c.loop-letter.invariant
+pub returns-in_default : goal.returns-in_default
+returns-in_default c =
+    letter_other c.args.letters.now c.loop-letter.letter-index c.loop-letter-test.true _ (sym c.in_default.ensures) c.loop-letter.invariant
 
 pub returns : goal.returns
 returns c = letters_all c.args.letters.now c.loop-letter.letter-index _ c.loop-letter-test.false c.loop-letter.invariant

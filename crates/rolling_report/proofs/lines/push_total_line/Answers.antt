@@ -8,7 +8,7 @@ pub returns : goal.returns
 returns c =
     let out = vec_items c.args.out.now in
     let n = c.args.sum in
-    let word = pushed {xs = out} (codes "total") refl c.in-ok-extend-from-slice.was c.extend-from-slice.ensures.items in
-    let number = behind (spaced n) word c.in-ok-push-spaced.ensures in
-    written c.extend-from-slice-2.result (10 ∷ []) (out ++ total_line n) number c.extend-from-slice-2.ensures.items
+    let word = pushed {xs = out} (codes "total") refl c.in_ok-extend_from_slice.was c.extend_from_slice.ensures.items in
+    let number = behind (spaced n) word c.in_ok-push_spaced.ensures in
+    written c.extend_from_slice-2.result (10 ∷ []) (out ++ total_line n) number c.extend_from_slice-2.ensures.items
     (simp append_assoc)

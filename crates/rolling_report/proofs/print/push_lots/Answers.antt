@@ -2,8 +2,8 @@ use Rattle.std.proofs.Common.{arith}
 use Rattle.rolling_report.proofs.Totals.{total_next, lines_next, lines_all}
 use Rattle.rolling_report.proofs.print.push_lots.Goals as goal
 
-pub overflow-add-sum : goal.overflow-add-sum
-overflow-add-sum c =
+pub overflow_add-sum : goal.overflow_add-sum
+overflow_add-sum c =
     omega (arith, c.requires, c.loop-lot.invariant.0, total_next c.args.lots.now c.loop-lot.lot-index c.lot-item.result (omega arith) c.lot-item.is)
 
 pub loop-lot-preserved : goal.loop-lot-preserved
@@ -12,7 +12,7 @@ loop-lot-preserved c =
     let i = c.loop-lot.lot-index in
     let y = c.lot-item.result in (
       omega (arith, c.loop-lot.invariant.0, total_next lots i y (omega arith) c.lot-item.is),
-      lines_next lots i y _ _ _ (omega arith) c.lot-item.is c.in-ok-push-lot-line.ensures c.loop-lot.invariant.1,
+      lines_next lots i y _ _ _ (omega arith) c.lot-item.is c.in_ok-push_lot_line.ensures c.loop-lot.invariant.1,
     )
 
 pub returns : goal.returns

@@ -8,19 +8,19 @@ use Rattle.rolling_report.specs.Printing.{total_cost}
 use Rattle.rolling_report.proofs.Series.{frozen_cost, series_lines_lem}
 use Rattle.rolling_report.proofs.replaying.print_series.Goals as goal
 
-pub push-answers-requires : goal.push-answers-requires
-push-answers-requires c =
+pub push_answers-requires : goal.push_answers-requires
+push_answers-requires c =
     record {
       frozen = subst (λ (es : List Entry). AllByRecursion (λ e. HandsOutFrozen e.answer) es) (sym c.deref.ensures.value) c.requires.frozen;
       fits = omega (arith, c.requires.fits, ap frozen_cost c.deref.ensures.value);
     }
 
-pub push-lots-requires : goal.push-lots-requires
-push-lots-requires c = omega (arith, c.requires.fits, ap (λ (ys : List Lot). total_cost (map terms ys)) c.deref-2.ensures.value)
+pub push_lots-requires : goal.push_lots-requires
+push_lots-requires c = omega (arith, c.requires.fits, ap (λ (ys : List Lot). total_cost (map terms ys)) c.deref-2.ensures.value)
 
 pub returns : goal.returns
 returns c =
-    let answers = c.in-ok-frozen.ensures in
-    let lots = c.in-ok-closing.ensures in
+    let answers = c.in_ok-frozen.ensures in
+    let lots = c.in_ok-closing.ensures in
     series_lines_lem _ _ _ _ _ _ _ _ _ _ c.deref.ensures.value c.deref-2.ensures.value c.new-out.ensures.items answers.0 answers.1 lots.0 lots.1
-    c.in-ok-push-total-line.ensures
+    c.in_ok-push_total_line.ensures

@@ -11,9 +11,9 @@ use Rattle.rolling_report.proofs.Fitting.{LineLawful, costs_lawful}
 use Rattle.rolling_report.proofs.Replayed.{series_fits, series_printed}
 use Rattle.rolling_report.proofs.replaying.replay.Goals as goal
 
-pub print-series-requires : goal.print-series-requires
-print-series-requires c =
-    let obeys = c.in-ok-run-series.ensures in
+pub print_series-requires : goal.print_series-requires
+print_series-requires c =
+    let obeys = c.in_ok-run_series.ensures in
     let bs = c.args.input.now in
     let lawful = subst LineLawful (sym c.in-Ok.ensures.told) (costs_lawful bs) in
     record {
@@ -21,20 +21,20 @@ print-series-requires c =
       fits = series_fits _ _ _ _ _ _ obeys lawful (small _ _ _);
     }
 
-pub returns-in-ok-run-series : goal.returns-in-ok-run-series
+pub returns-in_ok-run_series : goal.returns-in_ok-run_series
 unfolding replayed
-returns-in-ok-run-series c =
+returns-in_ok-run_series c =
     let bs = c.args.input.now in
     let m = c.in-Ok.costs.model in
     let whole = c.new-feed.ensures.whole ∙ ap (forecast 0 0) (take_rest bs c.in-Ok.costs.length) in
-    IfOk-weaker c.print-series.result _ _
-    (λ v e. e ∙ series_printed _ _ _ _ _ _ c.in-ok-run-series.ensures
+    IfOk-weaker c.print_series.result _ _
+    (λ v e. e ∙ series_printed _ _ _ _ _ _ c.in_ok-run_series.ensures
     ∙ ap (λ (f : Forecast). replay_due (λ _. m.setup) (constant_price m.unit m.holding) f.demands f.ending (map call_of c.args.calls.now)) whole
     ∙ ap (replay_at c.args.calls.now bs) c.in-Ok.ensures.told)
-    c.print-series.ensures
+    c.print_series.ensures
 
 pub returns-in-Err : goal.returns-in-Err
 unfolding replayed
 returns-in-Err c =
-    IfOk-weaker c.refusal-line.result _ _ (λ v e. e ∙ ap (replay_at c.args.calls.now c.args.input.now) c.in-Err.ensures.told)
-    c.refusal-line.ensures
+    IfOk-weaker c.refusal_line.result _ _ (λ v e. e ∙ ap (replay_at c.args.calls.now c.args.input.now) c.in-Err.ensures.told)
+    c.refusal_line.ensures

@@ -10,8 +10,8 @@ pub index-requires : goal.index-requires
 index-requires c =
     omega (arith, c.requires.within, length_summed _ _ c.args.self.now.summed, c.args.self.now.held.ok.0)
 
-pub overflow-sub-p : goal.overflow-sub-p
-overflow-sub-p c = omega (arith, c.requires.begun, ap (λ x. x.date) (get_or_read _ _ _ c.requires.within c.index-line.ensures empty_line))
+pub overflow_sub-p : goal.overflow_sub-p
+overflow_sub-p c = omega (arith, c.requires.begun, ap (λ x. x.date) (get_or_read _ _ _ c.requires.within c.index-line.ensures empty_line))
 
 told :
     (c : goal.After-struct-known-2·1)
@@ -24,11 +24,11 @@ few c =
     let e = none_of _ c.args.self.now.right in
     held_fits (vec_items c.args.self.now.lines) c.args.p e (omega (arith, c.requires.begun, dated_from_1 _ _ e c.requires.within))
 
-pub overflow-mul-result : goal.overflow-mul-result
-overflow-mul-result c = omega (arith, told c, few c)
+pub overflow_mul-result : goal.overflow_mul-result
+overflow_mul-result c = omega (arith, told c, few c)
 
-pub overflow-add-result : goal.overflow-add-result
-overflow-add-result c = omega (arith, told c, few c)
+pub overflow_add-result : goal.overflow_add-result
+overflow_add-result c = omega (arith, told c, few c)
 
 pub returns : goal.returns
 returns c = omega (arith, told c)

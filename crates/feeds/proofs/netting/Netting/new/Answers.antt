@@ -5,7 +5,7 @@ use Rattle.feeds.proofs.netting.Netting.new.Goals as goal
 
 pub returns : goal.returns
 returns g c =
-    let right : supply_fault c.args.stock (vec_items c.args.receipts) ≡ None = ap (supply_fault c.args.stock) (sym c.as-slice.ensures.value) ∙ sym c.in-default.ensures in (
+    let right : supply_fault c.args.stock (vec_items c.args.receipts) ≡ None = ap (supply_fault c.args.stock) (sym c.as_slice.ensures.value) ∙ sym c.in_default.ensures in (
       right,
       refl,
       record {

@@ -4,28 +4,28 @@ use Rattle.feeds.proofs.Forecasts.{told_end, none_left, told_first, rest_left, s
 use Rattle.feeds.proofs.Orderly.{opened, read_fits, small}
 use Rattle.feeds.proofs.orders.OrderFeedFeed.next.Goals as goal
 
-pub returns-in-err-period : goal.returns-in-err-period
-returns-in-err-period c =
-    let was = opened _ _ _ _ c.in-err-period.ensures.told in
-    let p = err_from_is_err_and c.from-residual.result c.from-residual.ensures.1 in
+pub returns-in_err-period : goal.returns-in_err-period
+returns-in_err-period c =
+    let was = opened _ _ _ _ c.in_err-period.ensures.told in
+    let p = err_from_is_err_and c.from_residual.result c.from_residual.ensures.1 in
     record {
       told = p.1 ∙ ap Err p.2 ∙ told_end _ _ was;
       small = small _ _ _;
-      fits = IfOk-from_err _ _ c.from-residual.ensures.0;
+      fits = IfOk-from_err _ _ c.from_residual.ensures.0;
       others = none_left _ _ was;
       ending = refl;
       onward = omega arith;
       ended = λ _. refl;
     }
 
-pub returns-in-default : goal.returns-in-default
-returns-in-default c =
-    let was = opened _ _ _ _ (ap Ok (sym c.in-default.is) ∙ c.in-ok-period.ensures.told) in
+pub returns-in_default : goal.returns-in_default
+returns-in_default c =
+    let was = opened _ _ _ _ (ap Ok (sym c.in_default.is) ∙ c.in_ok-period.ensures.told) in
     record { told = told_end _ _ was; small = small _ _ _; fits = tt; others = none_left _ _ was; ending = refl; onward = omega arith; ended = λ _. refl }
 
 pub returns : goal.returns
 returns c =
-    let read = ap Ok (sym c.in-Some.is) ∙ c.in-ok-period.ensures.told in
+    let read = ap Ok (sym c.in-Some.is) ∙ c.in_ok-period.ensures.told in
     let was = opened _ _ _ _ read in
     record {
       told = told_first _ _ _ was;

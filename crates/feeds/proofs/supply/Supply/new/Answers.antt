@@ -2,7 +2,7 @@ use Rattle.std.proofs.Common.{vec_items, arith}
 use Rattle.feeds.proofs.Layers.{Right, supply_right}
 use Rattle.feeds.proofs.supply.Supply.new.Goals as goal
 
-pub invariant-of-result : goal.invariant-of-result
-invariant-of-result c =
+pub invariant_of-result : goal.invariant_of-result
+invariant_of-result c =
     let right : Right c.args.stock (vec_items c.args.receipts) = supply_right _ _ c.requires in
     (omega (arith, right.few, c.args.receipts.ok.0), (omega arith, (omega (arith, right.bounded), (right.coming, tt))))

@@ -14,10 +14,10 @@ returns-then-self-len c =
 some_left : (c : After-from) → c.args.self.now.due < length (vec_items c.args.self.now.receipts)
 some_left c = let s = c.args.self.now in omega (arith, s.receipts.ok.0, s.within, c.if-self-len.false, c.len.ensures)
 
-pub invariant-of-self : goal.invariant-of-self
-invariant-of-self c =
+pub invariant_of-self : goal.invariant_of-self
+invariant_of-self c =
     let s = c.args.self.now in
-    let at = (goal.at.invariant-of-self c).After-from in
+    let at = (goal.at.invariant_of-self c).After-from in
     (s.few, (s.within, (s.bounded, (still_coming _ _ _ c.index.result.now (some_left at) c.index.ensures s.coming (omega (arith, c.if-self-from.true, c.from.ensures, c.date.ensures)), tt))))
 
 pub returns-then-self-from : goal.returns-then-self-from
@@ -31,16 +31,16 @@ returns-then-self-from c =
       later = λ stock ds. refl;
     }
 
-pub overflow-add-self-3 : goal.overflow-add-self-3
-overflow-add-self-3 c =
+pub overflow_add-self-3 : goal.overflow_add-self-3
+overflow_add-self-3 c =
     let s = c.args.self.now in
-    let date = (due_comes _ _ _ c.index.result.now (some_left (goal.at.overflow-add-self-3 c).After-from) c.index.ensures s.coming).date in
+    let date = (due_comes _ _ _ c.index.result.now (some_left (goal.at.overflow_add-self-3 c).After-from) c.index.ensures s.coming).date in
     omega (arith, date, c.date.ensures, c.date.type-inv)
 
-pub invariant-of-self-2 : goal.invariant-of-self-2
-invariant-of-self-2 c =
+pub invariant_of-self-2 : goal.invariant_of-self-2
+invariant_of-self-2 c =
     let s = c.args.self.now in
-    let at = (goal.at.invariant-of-self-2 c).After-from in
+    let at = (goal.at.invariant_of-self-2 c).After-from in
     let left = some_left at in (
       s.few,
       (

@@ -17,11 +17,11 @@ returns-in-EndAndMore c =
     let f = c.args.self.now in
     record_told _ _ _ _ (ap (λ p. Err (BytesAfterEnd (f.place + 4) p)) (period_is _ f.few) ∙ at_front _ _ _ _ c.in-EndAndMore.ensures)
 
-pub returns-in-default : goal.returns-in-default
-returns-in-default c =
+pub returns-in_default : goal.returns-in_default
+returns-in_default c =
     let f = c.args.self.now in
     record_told _ _ _ _
-    (ap (λ p. Err (OtherLayout f.place p)) (period_is _ f.few) ∙ at_line _ _ _ _ c.in-Other.ensures c.in-default.ensures.told)
+    (ap (λ p. Err (OtherLayout f.place p)) (period_is _ f.few) ∙ at_line _ _ _ _ c.in-Other.ensures c.in_default.ensures.told)
 
 pub returns-then-line-period : goal.returns-then-line-period
 returns-then-line-period c =
@@ -30,17 +30,17 @@ returns-then-line-period c =
     (ap (λ p. Err (WrongPeriod f.place p)) (period_is _ f.few) ∙ sym (cond-false _ _ _ (ne_eqb _ _ c.if-line-period.true))
     ∙ at_line _ _ _ _ c.in-Other.ensures c.in-Some.ensures.told)
 
-pub returns-then-line-gt-LARGEST-DEMAND : goal.returns-then-line-gt-LARGEST-DEMAND
-returns-then-line-gt-LARGEST-DEMAND c =
+pub returns-then-line-gt-LARGEST_DEMAND : goal.returns-then-line-gt-LARGEST_DEMAND
+returns-then-line-gt-LARGEST_DEMAND c =
     let f = c.args.self.now in
     record_told _ _ _ _
-    (ap (λ p. Err (DemandTooLarge f.place p)) (period_is _ f.few) ∙ sym (cond-false _ _ _ (lt-leb _ _ c.if-line-gt-LARGEST-DEMAND.true))
+    (ap (λ p. Err (DemandTooLarge f.place p)) (period_is _ f.few) ∙ sym (cond-false _ _ _ (lt-leb _ _ c.if-line-gt-LARGEST_DEMAND.true))
     ∙ sym (cond-true _ _ _ (eq-eqb _ _ c.if-line-period.false))
     ∙ at_line _ _ _ _ c.in-Other.ensures c.in-Some.ensures.told)
 
-pub returns-else-line-gt-LARGEST-DEMAND : goal.returns-else-line-gt-LARGEST-DEMAND
-returns-else-line-gt-LARGEST-DEMAND c =
+pub returns-else-line-gt-LARGEST_DEMAND : goal.returns-else-line-gt-LARGEST_DEMAND
+returns-else-line-gt-LARGEST_DEMAND c =
     let f = c.args.self.now in
     record_told _ _ _ _
-    (sym (cond-true _ _ _ (le-leb _ _ c.if-line-gt-LARGEST-DEMAND.false)) ∙ sym (cond-true _ _ _ (eq-eqb _ _ c.if-line-period.false))
+    (sym (cond-true _ _ _ (le-leb _ _ c.if-line-gt-LARGEST_DEMAND.false)) ∙ sym (cond-true _ _ _ (eq-eqb _ _ c.if-line-period.false))
     ∙ at_line _ _ _ _ c.in-Other.ensures c.in-Some.ensures.told)

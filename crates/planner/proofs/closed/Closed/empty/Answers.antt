@@ -8,7 +8,7 @@ use Rattle.planner.proofs.closed.Closed.empty.Goals as goal
 
 pub loop-lot-preserved : goal.loop-lot-preserved
 loop-lot-preserved g c =
-    let pushed = chosen _ _ _ _ c.push.ensures.items (ap is_ok c.in-ok-push.was) in
+    let pushed = chosen _ _ _ _ c.push.ensures.items (ap is_ok c.in_ok-push.was) in
     let told = c.in-Ok.ensures in (
       told.left.rows ∙ c.loop-lot.invariant.0,
       rests_more _ _ c.loop-lot.invariant.0 _ _ _ c.in-Ok.lot _ _ c.loop-lot.invariant.1 told.due told.left.after pushed,
@@ -17,6 +17,6 @@ loop-lot-preserved g c =
 
 pub returns : goal.returns
 returns g c = record {
-  rests = rests_done _ _ c.loop-lot.invariant.0 _ _ c.in-default.field-0 _ c.loop-lot.invariant.1 c.in-default.ensures.due;
+  rests = rests_done _ _ c.loop-lot.invariant.0 _ _ c.in_default.field-0 _ c.loop-lot.invariant.1 c.in_default.ensures.due;
   closing = c.loop-lot.invariant.2;
 }

@@ -10,8 +10,8 @@ use Rattle.planner.specs.Windows.{window}
 use Rattle.planner.proofs.Backward.{forward, next_lot, spans_base}
 use Rattle.planner.proofs.closed.Closed.rest.Goals as goal
 
-pub invariant-of-self : goal.invariant-of-self
-invariant-of-self g c =
+pub invariant_of-self : goal.invariant_of-self
+invariant_of-self g c =
     let r = c.args.self.now.rows in
     let sp = c.in-Some.ensures.spans in
     (omega (arith, forward (window r) r.sound _ (spans_base (window r) _ _ c.args.self.now.onward sp), sp.later, c.args.self.now.onward), tt)

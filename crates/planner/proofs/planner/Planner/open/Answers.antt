@@ -1,5 +1,5 @@
 use Rattle.planner.proofs.Following.{empty_proves}
 use Rattle.planner.proofs.planner.Planner.open.Goals as goal
 
-pub invariant-of-result : goal.invariant-of-result
-invariant-of-result g c = (empty_proves _ c.in-Ok.ensures, tt)
+pub invariant_of-result : goal.invariant_of-result
+invariant_of-result g c = (empty_proves _ c.in-Ok.ensures, tt)

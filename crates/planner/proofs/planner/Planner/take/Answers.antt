@@ -12,10 +12,10 @@ use Rattle.planner.proofs.planner.Planner.take.Goals.{In-Some}
 told : (g : given.Over) (c : In-Some g) → TellsProved (window c.args.self.now.rows) (Some c.in-Some.span)
 told g c = subst (TellsProved (window c.args.self.now.rows)) c.in-Some.is c.args.self.now.right
 
-pub returns-in-default : goal.returns-in-default
-returns-in-default g c = record {
+pub returns-in_default : goal.returns-in_default
+returns-in_default g c = record {
   follows = λ ds ending es tr.
-      stays _ _ ds ending es _ _ _ tr take_call _ (untaken _ _ ds ending es _ _ _ tr (subst (TellsProved (window c.args.self.now.rows)) c.in-default.is c.args.self.now.right));
+      stays _ _ ds ending es _ _ _ tr take_call _ (untaken _ _ ds ending es _ _ _ tr (subst (TellsProved (window c.args.self.now.rows)) c.in_default.is c.args.self.now.right));
   onward = tt;
   frozen = tt;
   feed = refl;
@@ -29,23 +29,23 @@ lot-lot-requires g c =
     let t = told g (goal.at.lot-lot-requires g c).In-Some in
     record { spans = proved_spans (window r) r.sound _ t; settled = λ _. proved_settled (window r) r.sound _ t }
 
-pub move-base-requires : goal.move-base-requires
-move-base-requires g c =
+pub move_base-requires : goal.move_base-requires
+move_base-requires g c =
     let r = c.args.self.now.rows in
-    let t = told g (goal.at.move-base-requires g c).In-Some in
+    let t = told g (goal.at.move_base-requires g c).In-Some in
     record { onward = proved_onward (window r) r.sound _ t; inside = proved_inside (window r) r.sound _ t }
 
 pub returns : goal.returns
 returns g c = record {
   follows = λ ds ending es tr.
-      takes _ _ ds ending es _ _ _ tr _ (told g (goal.at.returns g c).In-Some) c.lot-lot.result c.lot-lot.ensures.means _ c.move-base.ensures;
+      takes _ _ ds ending es _ _ _ tr _ (told g (goal.at.returns g c).In-Some) c.lot-lot.result c.lot-lot.ensures.means _ c.move_base.ensures;
   onward =
       let r = c.args.self.now.rows in
       let t = told g (goal.at.returns g c).In-Some in
       let through = c.lot-lot.ensures.through in (
-        ap (λ w. w.base) c.move-base.ensures ∙ sym through,
+        ap (λ w. w.base) c.move_base.ensures ∙ sym through,
         omega (arith, proved_strictly (window r) r.sound _ t),
-        moved_reads (window r) r.sound _ t _ c.move-base.ensures,
+        moved_reads (window r) r.sound _ t _ c.move_base.ensures,
       );
   frozen = c.lot-lot.ensures.kind;
   feed = refl;

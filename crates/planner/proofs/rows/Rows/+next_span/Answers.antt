@@ -25,8 +25,8 @@ returns-then-last-after t c = record {
   spans = tt;
 }
 
-pub next-span-requires : goal.next-span-requires
-next-span-requires t c =
+pub next_span-requires : goal.next_span-requires
+next_span-requires t c =
     let w = window c.args.self.now in
     let fits = last_fits w c.args.self.now.sound (c.args.horizon - c.args.self.now.base) (omega arith) in
     let read = ap (λ r. r.last) c.at-last.ensures in
@@ -42,8 +42,8 @@ returns-in-None t c = record {
   };
 }
 
-pub returns-in-default : goal.returns-in-default
-returns-in-default t c = record {
-  means = λ e h. back_earlier e _ _ _ (told t (goal.at.returns-in-default t c).After-at-last e h) c.if-last-after.false _ c.in-default.not-None (c.next-span.ensures.means e h);
-  spans = c.next-span.ensures.spans;
+pub returns-in_default : goal.returns-in_default
+returns-in_default t c = record {
+  means = λ e h. back_earlier e _ _ _ (told t (goal.at.returns-in_default t c).After-at-last e h) c.if-last-after.false _ c.in_default.not-None (c.next_span.ensures.means e h);
+  spans = c.next_span.ensures.spans;
 }

@@ -50,20 +50,20 @@ ends c =
       );
     }
 
-pub overflow-sub-result : goal.overflow-sub-result
-overflow-sub-result c = omega (arith, (ends (goal.at.overflow-sub-result c).After-at-end).begun)
+pub overflow_sub-result : goal.overflow_sub-result
+overflow_sub-result c = omega (arith, (ends (goal.at.overflow_sub-result c).After-at-end).begun)
 
-pub overflow-cast-result : goal.overflow-cast-result
-overflow-cast-result c = omega (arith, (ends (goal.at.overflow-cast-result c).After-at-end).bounded)
+pub overflow_cast-result : goal.overflow_cast-result
+overflow_cast-result c = omega (arith, (ends (goal.at.overflow_cast-result c).After-at-end).bounded)
 
-pub overflow-sub-result-2 : goal.overflow-sub-result-2
-overflow-sub-result-2 c = (ends (goal.at.overflow-sub-result-2 c).After-at-end).spent
+pub overflow_sub-result-2 : goal.overflow_sub-result-2
+overflow_sub-result-2 c = (ends (goal.at.overflow_sub-result-2 c).After-at-end).spent
 
-pub invariant-of-result : goal.invariant-of-result
-invariant-of-result c =
+pub invariant_of-result : goal.invariant_of-result
+invariant_of-result c =
     let r = c.args.self.now in
     let w : Window = window r in
-    let e = ends (goal.at.invariant-of-result c).After-at-end in
+    let e = ends (goal.at.invariant_of-result c).After-at-end in
     let sp = c.requires.spans in
     let f = forward w r.sound c.args.span sp in
     let read = c.read.ensures in (

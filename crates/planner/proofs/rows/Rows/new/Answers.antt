@@ -3,10 +3,10 @@ use Rattle.planner.specs.Describing.{Sound, window_of}
 use Rattle.planner.proofs.Soundness.{sound_empty}
 use Rattle.planner.proofs.rows.Rows.new.Goals as goal
 
-pub invariant-of-result : goal.invariant-of-result
-invariant-of-result c =
-    let rows = c.in-ok-rows.ensures in
-    let options = c.in-ok-options.ensures in (
+pub invariant_of-result : goal.invariant_of-result
+invariant_of-result c =
+    let rows = c.in_ok-rows.ensures in
+    let options = c.in_ok-options.ensures in (
       omega arith,
       (
         omega arith,

@@ -7,7 +7,7 @@ use Rattle.planner.proofs.Soundness.{least_fits, demanded_fits, last_fits, base_
 use Rattle.planner.proofs.Growing.{grown_idle, grown_busy, window_paired, raised_from, chosen_from, pushed_behind}
 use Rattle.planner.proofs.rows.Rows.push.Given as given
 use Rattle.planner.proofs.rows.Rows.push.Goals as goal
-use Rattle.planner.proofs.rows.Rows.push.Goals.{After-unwrap, After-unwrap-2, After-saturating-sub, After-push-reserved-then-demand-eq0, After-push-reserved-3}
+use Rattle.planner.proofs.rows.Rows.push.Goals.{After-unwrap, After-unwrap-2, After-saturating_sub, After-push_reserved-then-demand-eq0, After-push_reserved-3}
 
 -- the newest row, and the charge of the period after it
 newest : (g : given.Over) (c : After-unwrap g) → c.at-newest.result ≡ row_after (window c.args.self.now) (length (window c.args.self.now).rows)
@@ -18,30 +18,30 @@ charge g c =
     charge_told (g.M.CostModel.K c.args.model.now) (c.read-read.result + 1) _ _ c.setup.ensures c.unwrap.ensures
     ∙ ap (g.M.CostModel.K c.args.model.now) (omega arith)
 
-pub overflow-add-setup : goal.overflow-add-setup
-overflow-add-setup g c =
+pub overflow_add-setup : goal.overflow_add-setup
+overflow_add-setup g c =
     let w : Window = window c.args.self.now in
-    let u = (goal.at.overflow-add-setup g c).After-unwrap in
+    let u = (goal.at.overflow_add-setup g c).After-unwrap in
     let fits = (g.met.M.CostModel.lawful c.args.model.now).charge_fits (suc (reading w)) (omega arith) in
     omega (arith, charge g u, ap (λ r. r.least) (newest g u), least_fits w c.args.self.now.sound (length w.rows) (omega arith))
 
-pub push-reserved-requires : goal.push-reserved-requires
-push-reserved-requires g c = omega arith
+pub push_reserved-requires : goal.push_reserved-requires
+push_reserved-requires g c = omega arith
 
 -- a period without demand
-grown_by_none : (g : given.Over) (c : After-push-reserved-then-demand-eq0 g) →
+grown_by_none : (g : given.Over) (c : After-push_reserved-then-demand-eq0 g) →
     Grown (g.M.CostModel.K c.args.model.now) (g.M.CostModel.V c.args.model.now) c.args.demand (window c.args.self.now)
-    (window_of c.args.self.now.base c.args.self.now.before (vec_items c.push-reserved-then-demand-eq0.new.self) (vec_items c.push-reserved.new.self))
+    (window_of c.args.self.now.base c.args.self.now.before (vec_items c.push_reserved-then-demand-eq0.new.self) (vec_items c.push_reserved.new.self))
 grown_by_none g c =
     let w : Window = window c.args.self.now in
-    let u = (goal.at.After-push-reserved-then-demand-eq0 g c).After-unwrap in
+    let u = (goal.at.After-push_reserved-then-demand-eq0 g c).After-unwrap in
     let new = newest g u in
     grown_idle w _ _ (window_paired c.args.self.now) _ _ _ _ c.if-demand-eq0.true (omega (arith, charge g u, ap (λ r. r.least) new))
-    (c.push-reserved-then-demand-eq0.ensures.items ∙ ap (λ r. w.rows ++ (r ∷ [])) new) c.push-reserved.ensures.items
+    (c.push_reserved-then-demand-eq0.ensures.items ∙ ap (λ r. w.rows ++ (r ∷ [])) new) c.push_reserved.ensures.items
 
-pub invariant-of-self : goal.invariant-of-self
-invariant-of-self g c =
-    let grown = grown_by_none g (goal.at.invariant-of-self g c).After-push-reserved-then-demand-eq0 in (
+pub invariant_of-self : goal.invariant_of-self
+invariant_of-self g c =
+    let grown = grown_by_none g (goal.at.invariant_of-self g c).After-push-reserved-then-demand-eq0 in (
       omega arith,
       (
         omega arith,
@@ -72,13 +72,13 @@ price g c =
     price_told_lem (g.M.CostModel.V c.args.model.now) (c.read-read.result + 1) (c.read-read.result + 1) _ _ c.price.ensures c.unwrap-2.ensures
     ∙ ap₂ (g.M.CostModel.V c.args.model.now) there there
 
-pub overflow-add-own : goal.overflow-add-own
-overflow-add-own g c =
+pub overflow_add-own : goal.overflow_add-own
+overflow_add-own g c =
     let w : Window = window c.args.self.now in
-    let u = (goal.at.overflow-add-own g c).After-unwrap in
+    let u = (goal.at.overflow_add-own g c).After-unwrap in
     let lawful = g.met.M.CostModel.lawful c.args.model.now in
     let cheap = mul-le-mul c.requires.small (lawful.price_fits (suc (reading w)) (suc (reading w)) (omega arith) (omega arith) (omega arith)) in
-    let asked = ap₂ ◌*◌ c.from.ensures (price g (goal.at.overflow-add-own g c).After-unwrap-2) in
+    let asked = ap₂ ◌*◌ c.from.ensures (price g (goal.at.overflow_add-own g c).After-unwrap-2) in
     omega (
       arith,
       charge g u,
@@ -87,14 +87,14 @@ overflow-add-own g c =
       least_fits w c.args.self.now.sound (length w.rows) (omega arith),
     )
 
-pub overflow-sub-first : goal.overflow-sub-first
-overflow-sub-first g c =
+pub overflow_sub-first : goal.overflow_sub-first
+overflow_sub-first g c =
     let w : Window = window c.args.self.now in
-    omega (arith, ap (λ r. r.last) (newest g (goal.at.overflow-sub-first g c).After-unwrap), base_inside w c.args.self.now.sound)
+    omega (arith, ap (λ r. r.last) (newest g (goal.at.overflow_sub-first g c).After-unwrap), base_inside w c.args.self.now.sound)
 
 -- the walk begins with the option of the last setup
-begins : (g : given.Over) (c : After-saturating-sub g) → c.saturating-sub.result - c.args.self.now.base ≡ live_from (window c.args.self.now)
-begins g c = ap (λ n. n - c.args.self.now.base) (c.saturating-sub.ensures ∙ ap (λ r. r.last - 1) (newest g (goal.at.After-saturating-sub g c).After-unwrap))
+begins : (g : given.Over) (c : After-saturating_sub g) → c.saturating_sub.result - c.args.self.now.base ≡ live_from (window c.args.self.now)
+begins g c = ap (λ n. n - c.args.self.now.base) (c.saturating_sub.ensures ∙ ap (λ r. r.last - 1) (newest g (goal.at.After-saturating_sub g c).After-unwrap))
 
 pub raise-choice-requires : goal.raise-choice-requires
 raise-choice-requires g c =
@@ -116,26 +116,26 @@ raise-choice-requires g c =
           );
     }
 
-pub overflow-add-newest : goal.overflow-add-newest
-overflow-add-newest g c =
+pub overflow_add-newest : goal.overflow_add-newest
+overflow_add-newest g c =
     let w : Window = window c.args.self.now in
-    omega (arith, ap (λ r. r.demanded) (newest g (goal.at.overflow-add-newest g c).After-unwrap), demanded_fits w c.args.self.now.sound (length w.rows) (omega arith))
+    omega (arith, ap (λ r. r.demanded) (newest g (goal.at.overflow_add-newest g c).After-unwrap), demanded_fits w c.args.self.now.sound (length w.rows) (omega arith))
 
 -- a period with demand
-grown_by_some : (g : given.Over) (c : After-push-reserved-3 g) →
+grown_by_some : (g : given.Over) (c : After-push_reserved-3 g) →
     Grown (g.M.CostModel.K c.args.model.now) (g.M.CostModel.V c.args.model.now) c.args.demand (window c.args.self.now)
-    (window_of c.args.self.now.base c.args.self.now.before (vec_items c.push-reserved-3.new.self) (vec_items c.push-reserved-2.new.self))
+    (window_of c.args.self.now.base c.args.self.now.before (vec_items c.push_reserved-3.new.self) (vec_items c.push_reserved-2.new.self))
 grown_by_some g c =
     let r = c.args.self.now in
     let w : Window = window r in
     let K = g.M.CostModel.K c.args.model.now in
     let V = g.M.CostModel.V c.args.model.now in
-    let u = (goal.at.After-push-reserved-3 g c).After-unwrap in
+    let u = (goal.at.After-push_reserved-3 g c).After-unwrap in
     let new = newest g u in
     let same = c.deref-mut.ensures.value in
-    let first = begins g (goal.at.After-push-reserved-3 g c).After-saturating-sub in
+    let first = begins g (goal.at.After-push_reserved-3 g c).After-saturating-sub in
     let paid : c.at-newest.result.least + c.unwrap.result + c.from.result * c.unwrap-2.result ≡ own K V c.args.demand w =
-    ap₂ ◌+◌ (ap₂ ◌+◌ (ap (λ x. x.least) new) (charge g u)) (ap₂ ◌*◌ c.from.ensures (price g (goal.at.After-push-reserved-3 g c).After-unwrap-2)) in
+    ap₂ ◌+◌ (ap₂ ◌+◌ (ap (λ x. x.least) new) (charge g u)) (ap₂ ◌*◌ c.from.ensures (price g (goal.at.After-push_reserved-3 g c).After-unwrap-2)) in
     grown_busy w K V (window_paired r) _ _ c.args.demand c.raise-choice.new.options _ c.raise-choice.result.place
     (omega (arith, c.if-demand-eq0.false))
     (c.raise-choice.ensures.long ∙ ap length same ∙ window_paired r)
@@ -143,13 +143,13 @@ grown_by_some g c =
     (chosen_from w K V _ _ _ _ same (window_paired r) first _ _ paid c.raise-choice.ensures.chosen)
     (omega arith)
     (omega (arith, ap (λ x. x.demanded) new, c.from-2.ensures))
-    c.push-reserved-3.ensures.items
-    (c.push-reserved-2.ensures.items ∙ pushed_behind _ _ _ _ _ (c.raise-choice.ensures.long ∙ ap length same ∙ sym r.options.ok.0) paid)
+    c.push_reserved-3.ensures.items
+    (c.push_reserved-2.ensures.items ∙ pushed_behind _ _ _ _ _ (c.raise-choice.ensures.long ∙ ap length same ∙ sym r.options.ok.0) paid)
 
-pub invariant-of-self-2 : goal.invariant-of-self-2
-invariant-of-self-2 g c =
+pub invariant_of-self-2 : goal.invariant_of-self-2
+invariant_of-self-2 g c =
     let r = c.args.self.now in
-    let grown = grown_by_some g (goal.at.invariant-of-self-2 g c).After-push-reserved-3 in (
+    let grown = grown_by_some g (goal.at.invariant_of-self-2 g c).After-push-reserved-3 in (
       omega arith,
       (
         omega arith,
@@ -158,7 +158,7 @@ invariant-of-self-2 g c =
           (
             omega arith,
             (
-              omega (arith, c.push-reserved-2.ensures.capacity),
+              omega (arith, c.push_reserved-2.ensures.capacity),
               (
                 ∥∥₁_map r.sound (sound_grown _ _ _ _ _ (g.met.M.CostModel.lawful c.args.model.now) c.requires.small grown),
                 tt,

@@ -28,12 +28,12 @@ raises g c =
 pub loop-place-init : goal.loop-place-init
 loop-place-init g c = (c.requires.begins, walk_begins _ _ _)
 
-pub overflow-add-cost : goal.overflow-add-cost
-overflow-add-cost g c =
+pub overflow_add-cost : goal.overflow_add-cost
+overflow_add-cost g c =
     let p : ℕ = c.loop-place.place - 1 in
     let in-price = (g.met.M.CostModel.lawful c.args.model.now).price_fits (suc (c.args.base + p)) (suc (c.args.base + length c.args.options.now)) (omega arith) (omega arith) (omega arith) in
     let cheap = mul-le-mul c.requires.small in-price in
-    omega (arith, raises g (goal.at.overflow-add-cost g c).After-from, c.requires.fits p (omega arith) (omega arith))
+    omega (arith, raises g (goal.at.overflow_add-cost g c).After-from, c.requires.fits p (omega arith) (omega arith))
 
 pub loop-place-preserved-then-cost-best : goal.loop-place-preserved-then-cost-best
 loop-place-preserved-then-cost-best g c =
