@@ -14,12 +14,12 @@ pub overflow_sub-p : goal.overflow_sub-p
 overflow_sub-p c = omega (arith, c.requires.begun, ap (λ x. x.date) (get_or_read _ _ _ c.requires.within c.index-line.ensures empty_line))
 
 told :
-    (c : goal.After-struct-known-2·1)
+    (c : goal.After-struct_known-2-1)
     → c.index.result.now + c.index-line.result.now.holding * c.from.result ≡ holding_before (vec_items c.args.self.now.lines) c.args.p
 told c =
     held_told _ _ _ _ _ _ _ (none_of _ c.args.self.now.right) c.args.self.now.summed c.requires c.index-line.ensures c.index.ensures c.from.ensures
 
-few : (c : goal.After-struct-known-2·1) → holding_before (vec_items c.args.self.now.lines) c.args.p ≤ 3000 * (c.args.p - 1)
+few : (c : goal.After-struct_known-2-1) → holding_before (vec_items c.args.self.now.lines) c.args.p ≤ 3000 * (c.args.p - 1)
 few c =
     let e = none_of _ c.args.self.now.right in
     held_fits (vec_items c.args.self.now.lines) c.args.p e (omega (arith, c.requires.begun, dated_from_1 _ _ e c.requires.within))

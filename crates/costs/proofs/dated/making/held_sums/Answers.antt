@@ -17,13 +17,13 @@ pub overflow_sub-line : goal.overflow_sub-line
 overflow_sub-line c =
     omega (arith, ap (λ x. x.date) c.loop-line.invariant.1, next_later c.args.lines.now c.loop-line.line-index c.requires c.loop-line-test.true)
 
-next : (c : goal.After-struct-known-in-loop-line·1)
+next : (c : goal.After-struct_known-in-loop-line-1)
     → c.loop-line.sum + c.loop-line.before.holding * c.from.result
     ≡ holding_before c.args.lines.now (get_or c.args.lines.now c.loop-line.line-index empty_line).date
 next c =
     held_next c.args.lines.now c.loop-line.line-index c.loop-line.before _ _ c.requires c.loop-line-test.true c.loop-line.invariant.1 c.loop-line.invariant.2 c.from.ensures
 
-few : (c : goal.After-struct-known-in-loop-line·1)
+few : (c : goal.After-struct_known-in-loop-line-1)
     → holding_before c.args.lines.now (get_or c.args.lines.now c.loop-line.line-index empty_line).date
     ≤ 3000 * ((get_or c.args.lines.now c.loop-line.line-index empty_line).date - 1)
 few c =

@@ -18,7 +18,7 @@ pub invariant_of-self : goal.invariant_of-self
 invariant_of-self c =
     let s = c.args.self.now in
     let at = (goal.at.invariant_of-self c).After-from in
-    (s.few, (s.within, (s.bounded, (still_coming _ _ _ c.index.result.now (some_left at) c.index.ensures s.coming (omega (arith, c.if-self-from.true, c.from.ensures, c.date.ensures)), tt))))
+    record { few = s.few; within = s.within; bounded = s.bounded; coming = still_coming _ _ _ c.index.result.now (some_left at) c.index.ensures s.coming (omega (arith, c.if-self-from.true, c.from.ensures, c.date.ensures)) }
 
 pub returns-then-self-from : goal.returns-then-self-from
 returns-then-self-from c =
@@ -35,22 +35,13 @@ pub overflow_add-self-3 : goal.overflow_add-self-3
 overflow_add-self-3 c =
     let s = c.args.self.now in
     let date = (due_comes _ _ _ c.index.result.now (some_left (goal.at.overflow_add-self-3 c).After-from) c.index.ensures s.coming).date in
-    omega (arith, date, c.date.ensures, c.date.type-inv)
+    omega (arith, date, c.date.ensures, c.date.type_inv)
 
 pub invariant_of-self-2 : goal.invariant_of-self-2
 invariant_of-self-2 c =
     let s = c.args.self.now in
     let at = (goal.at.invariant_of-self-2 c).After-from in
-    let left = some_left at in (
-      s.few,
-      (
-        omega (arith, s.receipts.ok.0),
-        (
-          omega (arith, s.bounded),
-          (others_coming _ _ _ c.index.result.now left c.index.ensures s.coming (omega (arith, c.if-self-from.false, c.from.ensures, c.date.ensures)), tt),
-        ),
-      ),
-    )
+    let left = some_left at in record { few = s.few; within = omega (arith, s.receipts.ok.0); bounded = omega (arith, s.bounded); coming = others_coming _ _ _ c.index.result.now left c.index.ensures s.coming (omega (arith, c.if-self-from.false, c.from.ensures, c.date.ensures)) }
 
 pub returns : goal.returns
 returns c =
