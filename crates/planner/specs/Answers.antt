@@ -11,7 +11,7 @@ use Rattle.planner.specs.declared.refusals.TakeRefusal.TheVariants.{NoneProved}
 use Rattle.planner.specs.declared.calls.Call.{Call}
 use Rattle.planner.specs.declared.calls.Call.TheVariants.{Read as CallsRead, Take as CallsTake}
 use Rattle.planner.specs.declared.calls.Answer.{Answer}
-use Rattle.planner.specs.declared.calls.Answer.TheVariants.{given_lot as HandsOut, accepted_read as Reads, NotRead, NotTaken}
+use Rattle.planner.specs.declared.calls.Answer.TheVariants.{Given as HandsOut, Accepted as Reads, NotRead, NotTaken}
 use Rattle.planner.specs.declared.calls.Entry.{Entry}
 use Rattle.lots.specs.declared.lot.LotKind.TheVariants.{Frozen}
 

@@ -9,11 +9,11 @@ use Rattle.planner.proofs.forecast.freeze_all.Goals as goal
 pub loop-lot-init : goal.loop-lot-init
 loop-lot-init g c = (refl, λ ds ending tr. eager_start _ _ ds ending _ _ _ _ tr)
 
-pub loop-lot-preserved-in-Continue· : goal.loop-lot-preserved-in-Continue·
-loop-lot-preserved-in-Continue· g c =
+pub loop-lot-preserved-in-Continue-1 : goal.loop-lot-preserved-in-Continue-1
+loop-lot-preserved-in-Continue-1 g c =
     let told = c.in-Ok.ensures in
     let same = c.loop-lot.invariant.0 in
-    let pushed = chosen _ _ _ _ c.push.ensures.items (ap is_ok c.in_ok-push.was) in (
+    let pushed = chosen _ _ _ _ c.push.ensures.items (ap is_ok c.in_ok-push-in-Ok.was) in (
       told.model ∙ same,
       λ ds ending tr.
           eager_take _ _ ds ending _ _ _ _ _ (c.loop-lot.invariant.1 ds ending tr) c.in-Ok.lot _ _ _ _

@@ -2,8 +2,8 @@ use Rattle.std.proofs.Common.{map, is_ok, vec_items, refl, ap, ◌∙◌, subst,
 use Rattle.std.proofs.ResultArms.{chosen}
 use Rattle.std.proofs.lemmas.List.{get_or_default}
 use Rattle.theory.specs.Recursion.{Case}
-use Rattle.theory.specs.Series.{Rests}
-use Rattle.planner.specs.Answers.{handed_lot}
+use Rattle.theory.specs.Series.{Ran, Rests}
+use Rattle.planner.specs.Answers.{entry_of, handed_lot}
 use Rattle.planner.specs.Describing.{Describes, reading}
 use Rattle.planner.specs.Runs.{Obeys}
 use Rattle.planner.specs.Windows.{window}
@@ -24,8 +24,8 @@ loop-call-preserved g c =
           (follows_costs _ _ _ _ _ _ _ _ _ _ _ _ (ap g.M.CostModel.K same) (ap g.M.CostModel.V same) told.follows) told.frozen pushed,
     )
 
-pub returns : goal.returns
-returns g c =
+pub returns-clause-law : goal.returns-clause-law
+returns-clause-law g c =
     let made = c.in_ok-planner.ensures.made in
     let r = c.loop-call.invariant.1 in
     let emptied = c.in_ok-closing.ensures in
@@ -33,10 +33,15 @@ returns g c =
     made.1 made.0
     (record {
       made = r.made ∙ take_all _ _ c.loop-call-test.false;
-      due = r.tracks.ran;
       law = running_all _ _ (g.met.M.CostModel.lawful c.in_ok-planner.planner.model) _ _ _ _ _ _ _ _ _ _ r c.close-closed.ensures.after
           (subst (λ q. (d : Case) → Describes d (window q) → Rests d (reading (window q)) c.close-closed.result.after (map handed_lot (vec_items c.in_ok-closing.closing)))
           c.close-closed.ensures.rows emptied.rests);
       frozen = r.frozen;
       closing = emptied.closing;
     })
+
+pub returns-clause-due : goal.returns-clause-due
+returns-clause-due g c =
+    let made = c.in_ok-planner.ensures.made in
+    subst₂ (λ m f. Ran (g.M.CostModel.K m) (g.M.CostModel.V m) (g.F.Feed.demands f) (g.F.Feed.ending f) (map entry_of (vec_items c.loop-call.entries)))
+    made.1 made.0 c.loop-call.invariant.1.tracks.ran

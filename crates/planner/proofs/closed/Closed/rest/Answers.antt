@@ -14,7 +14,7 @@ pub invariant_of-self : goal.invariant_of-self
 invariant_of-self g c =
     let r = c.args.self.now.rows in
     let sp = c.in-Some.ensures.spans in
-    (omega (arith, forward (window r) r.sound _ (spans_base (window r) _ _ c.args.self.now.onward sp), sp.later, c.args.self.now.onward), tt)
+    record { onward = omega (arith, forward (window r) r.sound _ (spans_base (window r) _ _ c.args.self.now.onward sp), sp.later, c.args.self.now.onward) }
 
 pub returns : goal.returns
 returns g c = record {

@@ -66,25 +66,7 @@ invariant_of-result c =
     let e = ends (goal.at.invariant_of-result c).After-at-end in
     let sp = c.requires.spans in
     let f = forward w r.sound c.args.span sp in
-    let read = c.read.ensures in (
-      omega (arith, sp.later),
-      (
-        f,
-        (
-          omega (arith, sp.read),
-          (
-            omega (arith, r.few, r.rows.ok.0),
-            (
-              omega (arith, sp.later, sp.read, r.narrow, r.rows.ok.0),
-              (
-                omega (arith, e.begun),
-                (omega (arith, e.bounded), (omega (arith, e.affordable), (λ frozen. omega (arith, c.requires.settled frozen), tt))),
-              ),
-            ),
-          ),
-        ),
-      ),
-    )
+    let read = c.read.ensures in record { from_first = omega (arith, sp.later); forward = f; read = omega (arith, sp.read); few = omega (arith, r.few, r.rows.ok.0); short = omega (arith, sp.later, sp.read, r.narrow, r.rows.ok.0); some = omega (arith, e.begun); bounded = omega (arith, e.bounded); affordable = omega (arith, e.affordable); settled = λ frozen. omega (arith, c.requires.settled frozen) }
 
 pub returns : goal.returns
 unfolding lot

@@ -43,19 +43,7 @@ invariant_of-self c =
     let rows-turned = c.rotate_left.ensures.len in
     let rows_cut = c.truncate.ensures.len in
     let options-turned = c.rotate_left-2.ensures.len in
-    let options-cut = c.truncate-2.ensures.len in (
-      omega arith,
-      (
-        omega (arith, r.few),
-        (
-          omega (arith, r.narrow),
-          (
-            omega (arith, r.room, c.rotate_left.ensures.capacity, c.truncate.ensures.capacity),
-            (omega (arith, r.options_room, c.rotate_left-2.ensures.capacity, c.truncate-2.ensures.capacity), (sound, tt)),
-          ),
-        ),
-      ),
-    )
+    let options-cut = c.truncate-2.ensures.len in record { paired = omega arith; few = omega (arith, r.few); narrow = omega (arith, r.narrow); room = omega (arith, r.room, c.rotate_left.ensures.capacity, c.truncate.ensures.capacity); options_room = omega (arith, r.options_room, c.rotate_left-2.ensures.capacity, c.truncate-2.ensures.capacity); sound = sound }
 
 pub returns : goal.returns
 returns c = moved (goal.at.returns c).After-truncate-2

@@ -6,16 +6,4 @@ use Rattle.planner.proofs.rows.Rows.new.Goals as goal
 pub invariant_of-result : goal.invariant_of-result
 invariant_of-result c =
     let rows = c.in_ok-rows.ensures in
-    let options = c.in_ok-options.ensures in (
-      omega arith,
-      (
-        omega arith,
-        (
-          omega arith,
-          (
-            omega arith,
-            (omega arith, (∣ subst₂ (λ rs os. Sound (window_of 0 (record { demanded = 0; least = 0; last = 0 }) rs os)) (sym rows.items) (sym options.items) sound_empty ∣₁, tt)),
-          ),
-        ),
-      ),
-    )
+    let options = c.in_ok-options.ensures in record { paired = omega arith; few = omega arith; narrow = omega arith; room = omega arith; options_room = omega arith; sound = ∣ subst₂ (λ rs os. Sound (window_of 0 (record { demanded = 0; least = 0; last = 0 }) rs os)) (sym rows.items) (sym options.items) sound_empty ∣₁ }

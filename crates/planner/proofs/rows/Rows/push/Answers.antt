@@ -41,28 +41,10 @@ grown_by_none g c =
 
 pub invariant_of-self : goal.invariant_of-self
 invariant_of-self g c =
-    let grown = grown_by_none g (goal.at.invariant_of-self g c).After-push-reserved-then-demand-eq0 in (
-      omega arith,
-      (
-        omega arith,
-        (
-          omega arith,
-          (
-            omega arith,
-            (
-              omega arith,
-              (
-                ∥∥₁_map c.args.self.now.sound (sound_grown _ _ _ _ _ (g.met.M.CostModel.lawful c.args.model.now) c.requires.small grown),
-                tt,
-              ),
-            ),
-          ),
-        ),
-      ),
-    )
+    let grown = grown_by_none g (goal.at.invariant_of-self g c).After-push_reserved-then-demand-eq0 in record { paired = omega arith; few = omega arith; narrow = omega arith; room = omega arith; options_room = omega arith; sound = ∥∥₁_map c.args.self.now.sound (sound_grown _ _ _ _ _ (g.met.M.CostModel.lawful c.args.model.now) c.requires.small grown) }
 
 pub returns-then-demand-eq0 : goal.returns-then-demand-eq0
-returns-then-demand-eq0 g c = grown_by_none g (goal.at.returns-then-demand-eq0 g c).After-push-reserved-then-demand-eq0
+returns-then-demand-eq0 g c = grown_by_none g (goal.at.returns-then-demand-eq0 g c).After-push_reserved-then-demand-eq0
 
 -- the price of making in the new period for use in it
 price : (g : given.Over) (c : After-unwrap-2 g) →
@@ -100,8 +82,8 @@ pub raise-choice-requires : goal.raise-choice-requires
 raise-choice-requires g c =
     let r = c.args.self.now in
     let w : Window = window r in
-    let first = begins g (goal.at.raise-choice-requires g c).After-saturating-sub in
-    let same = c.deref-mut.ensures.value in
+    let first = begins g (goal.at.raise-choice-requires g c).After-saturating_sub in
+    let same = c.deref_mut.ensures.value in
     let long = ap length same ∙ window_paired r in
     record {
       short = omega (arith, r.rows.ok.0);
@@ -132,8 +114,8 @@ grown_by_some g c =
     let V = g.M.CostModel.V c.args.model.now in
     let u = (goal.at.After-push_reserved-3 g c).After-unwrap in
     let new = newest g u in
-    let same = c.deref-mut.ensures.value in
-    let first = begins g (goal.at.After-push_reserved-3 g c).After-saturating-sub in
+    let same = c.deref_mut.ensures.value in
+    let first = begins g (goal.at.After-push_reserved-3 g c).After-saturating_sub in
     let paid : c.at-newest.result.least + c.unwrap.result + c.from.result * c.unwrap-2.result ≡ own K V c.args.demand w =
     ap₂ ◌+◌ (ap₂ ◌+◌ (ap (λ x. x.least) new) (charge g u)) (ap₂ ◌*◌ c.from.ensures (price g (goal.at.After-push_reserved-3 g c).After-unwrap-2)) in
     grown_busy w K V (window_paired r) _ _ c.args.demand c.raise-choice.new.options _ c.raise-choice.result.place
@@ -149,25 +131,7 @@ grown_by_some g c =
 pub invariant_of-self-2 : goal.invariant_of-self-2
 invariant_of-self-2 g c =
     let r = c.args.self.now in
-    let grown = grown_by_some g (goal.at.invariant_of-self-2 g c).After-push-reserved-3 in (
-      omega arith,
-      (
-        omega arith,
-        (
-          omega arith,
-          (
-            omega arith,
-            (
-              omega (arith, c.push_reserved-2.ensures.capacity),
-              (
-                ∥∥₁_map r.sound (sound_grown _ _ _ _ _ (g.met.M.CostModel.lawful c.args.model.now) c.requires.small grown),
-                tt,
-              ),
-            ),
-          ),
-        ),
-      ),
-    )
+    let grown = grown_by_some g (goal.at.invariant_of-self-2 g c).After-push_reserved-3 in record { paired = omega arith; few = omega arith; narrow = omega arith; room = omega arith; options_room = omega (arith, c.push_reserved-2.ensures.capacity); sound = ∥∥₁_map r.sound (sound_grown _ _ _ _ _ (g.met.M.CostModel.lawful c.args.model.now) c.requires.small grown) }
 
 pub returns : goal.returns
-returns g c = grown_by_some g (goal.at.returns g c).After-push-reserved-3
+returns g c = grown_by_some g (goal.at.returns g c).After-push_reserved-3
