@@ -4,7 +4,7 @@ use Rattle.theory.specs.Endings.{Ending}
 use Rattle.theory.specs.Recursion.{Case, LawfulCosts, case_of, plan}
 use Rattle.theory.specs.Regeneration.{after}
 use Rattle.theory.specs.Series as series
-use Rattle.theory.specs.Series.{periods_read, taken, base, go_on}
+use Rattle.theory.specs.Series.{Ran, periods_read, taken, base, go_on}
 use Rattle.theory.proofs.Series.{one_record}
 use Rattle.lots.specs.Lots.{terms}
 use Rattle.lots.specs.declared.lot.LotKind.TheVariants.{Closing}
@@ -26,7 +26,7 @@ calls_same : (es : List Entry) → map (λ (e : series.Entry FeedFault). e.call)
 calls_same [] = refl
 calls_same (e ∷ es) = ap (λ (ks : List series.Call). call_of e.call ∷ ks) (calls_same es)
 
-module _ (K : ℕ → ℕ) (V : ℕ → ℕ → ℕ) (ds : List ℕ) (ending : Ending FeedFault) (calls : List Call) (s : Series) (o : Obeys K V ds ending calls s) where
+module _ (K : ℕ → ℕ) (V : ℕ → ℕ → ℕ) (ds : List ℕ) (ending : Ending FeedFault) (calls : List Call) (s : Series) (o : Obeys K V ds ending calls s) (due : Ran K V ds ending (map entry_of (vec_items s.entries))) where
   abbrev es : List (series.Entry FeedFault)
   es = map entry_of (vec_items s.entries)
 
@@ -37,7 +37,7 @@ module _ (K : ℕ → ℕ) (V : ℕ → ℕ → ℕ) (ds : List ℕ) (ending : E
   closing_is = closing_terms_lem c (periods_read es) (base es) (vec_items s.closing) o.law.rests o.closing
 
   series_is : es ≡ go_on K V ds ending [] (map call_of calls)
-  series_is = (one_record FeedFault K V ds ending (map call_of calls)).2 es o.due (calls_same (vec_items s.entries) ∙ ap (map call_of) o.made)
+  series_is = (one_record FeedFault K V ds ending (map call_of calls)).2 es due (calls_same (vec_items s.entries) ∙ ap (map call_of) o.made)
 
   -- all lots together cost a number of 64 bits
   pub series_fits : LawfulCosts K V → Small ds → frozen_cost (vec_items s.entries) + total_cost (map terms (vec_items s.closing)) < 2 ^ 64
@@ -47,7 +47,7 @@ module _ (K : ℕ → ℕ) (V : ℕ → ℕ → ℕ) (ds : List ℕ) (ending : E
         ap total_cost closing_is,
         total_handed Closing (periods_read es) (after (base es) (plan c (periods_read es))),
         total_frozen (taken es),
-        taken_total K V ds ending es lawful o.due,
+        taken_total K V ds ending es lawful due,
         least_payable K V ds lawful small (periods_read es) o.law.limits.most,
       )
 

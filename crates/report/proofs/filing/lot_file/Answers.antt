@@ -15,10 +15,10 @@ file_of-requires c =
     let few = subst Few (sym told) (input_few (forecast 0 0) c.args.input.now) in
     omega (arith, few, length-map (vec_items c.in-Ok.lots) terms, ap (λ (xs : List Lot). length xs) c.deref.ensures.value)
 
-pub returns-in_ok-file_of : goal.returns-in_ok-file_of
+pub returns-in_ok-file_of-in-Ok : goal.returns-in_ok-file_of-in-Ok
 unfolding file_due
-returns-in_ok-file_of c =
-    ap Ok (c.in_ok-file_of.ensures ∙ ap (λ (xs : List Lot). file_bytes (map terms xs)) c.deref.ensures.value)
+returns-in_ok-file_of-in-Ok c =
+    ap Ok (c.in_ok-file_of-in-Ok.ensures ∙ ap (λ (xs : List Lot). file_bytes (map terms xs)) c.deref.ensures.value)
     ∙ ap (λ p. file_of_plan (lots_told p)) (sym c.in-Ok.is) ∙ ap file_of_plan c.in_ok-lots.ensures
 
 pub returns-in-Err : goal.returns-in-Err

@@ -20,7 +20,7 @@ file_of-requires c =
 pub returns-in-None : goal.returns-in-None
 unfolding file_due
 returns-in-None c =
-    ap Ok (c.in_ok-file_of.ensures ∙ ap (λ (xs : List Lot). file_bytes (map terms xs)) c.deref.ensures.value)
+    ap Ok (c.in_ok-file_of-in-None.ensures ∙ ap (λ (xs : List Lot). file_bytes (map terms xs)) c.deref.ensures.value)
     ∙ ap (λ (o : Option ReadRefusal). file_unless o (map terms (vec_items c.in-Ok.planned.lots))) (sym c.in-None.is)
     ∙ ap (λ p. file_of_plan (plan_told p)) (sym c.in-Ok.is) ∙ ap file_of_plan c.in_ok-planned.ensures
 

@@ -13,22 +13,22 @@ use Rattle.rolling_report.proofs.replaying.replay.Goals as goal
 
 pub print_series-requires : goal.print_series-requires
 print_series-requires c =
-    let obeys = c.in_ok-run_series.ensures in
+    let ran = c.in_ok-run_series-in-Ok.ensures in
     let bs = c.args.input.now in
     let lawful = subst LineLawful (sym c.in-Ok.ensures.told) (costs_lawful bs) in
     record {
-      frozen = obeys.frozen;
-      fits = series_fits _ _ _ _ _ _ obeys lawful (small _ _ _);
+      frozen = ran.law.frozen;
+      fits = series_fits _ _ _ _ _ _ ran.law ran.due lawful (small _ _ _);
     }
 
-pub returns-in_ok-run_series : goal.returns-in_ok-run_series
+pub returns-in_ok-run_series-in-Ok : goal.returns-in_ok-run_series-in-Ok
 unfolding replayed
-returns-in_ok-run_series c =
+returns-in_ok-run_series-in-Ok c =
     let bs = c.args.input.now in
     let m = c.in-Ok.costs.model in
     let whole = c.new-feed.ensures.whole ∙ ap (forecast 0 0) (take_rest bs c.in-Ok.costs.length) in
     IfOk-weaker c.print_series.result _ _
-    (λ v e. e ∙ series_printed _ _ _ _ _ _ c.in_ok-run_series.ensures
+    (λ v e. e ∙ series_printed _ _ _ _ _ _ c.in_ok-run_series-in-Ok.ensures.law c.in_ok-run_series-in-Ok.ensures.due
     ∙ ap (λ (f : Forecast). replay_due (λ _. m.setup) (constant_price m.unit m.holding) f.demands f.ending (map call_of c.args.calls.now)) whole
     ∙ ap (replay_at c.args.calls.now bs) c.in-Ok.ensures.told)
     c.print_series.ensures
