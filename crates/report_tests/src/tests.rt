@@ -24,7 +24,7 @@ fn plans_are_printed(rt: HostRuntime) -> Result<(), Fail> {
             "closing 3 4 5 10 4\ntotal 10\n",
         ),
     ] {
-        prints(&rt, rt.alloc(), input.as_bytes(), output.as_bytes()).note(input)?;
+        prints(&rt, rt.alloc(), input.as_bytes(), output.as_bytes())?;
     }
     Ok(())
 }
@@ -47,7 +47,7 @@ fn refusals_are_printed(rt: HostRuntime) -> Result<(), Fail> {
         ("10,0,1\n1,4\n", "refused 12 at 4\n"),
         ("10,0,1\nend\n1,4\n", "refused 13 at 4\n"),
     ] {
-        prints(&rt, rt.alloc(), input.as_bytes(), output.as_bytes()).note(input)?;
+        prints(&rt, rt.alloc(), input.as_bytes(), output.as_bytes())?;
     }
     Ok(())
 }

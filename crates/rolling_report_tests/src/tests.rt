@@ -24,7 +24,7 @@ fn plans_are_printed(rt: HostRuntime) -> Result<(), Fail> {
             "closing 3 4 5 10 4\ntotal 10\n",
         ),
     ] {
-        prints(&rt, rt.alloc(), input.as_bytes(), output.as_bytes()).note(input)?;
+        prints(&rt, rt.alloc(), input.as_bytes(), output.as_bytes())?;
     }
     Ok(())
 }
@@ -51,7 +51,7 @@ fn refusals_are_printed(rt: HostRuntime) -> Result<(), Fail> {
             "frozen 1 2 7 13 3\nrefused 10 at 12\n",
         ),
     ] {
-        prints(&rt, rt.alloc(), input.as_bytes(), output.as_bytes()).note(input)?;
+        prints(&rt, rt.alloc(), input.as_bytes(), output.as_bytes())?;
     }
     Ok(())
 }
