@@ -1,5 +1,7 @@
 // Answers the cases of standard input one behind the other: each is a header line and then its input.
 // compare/README.md has the framing.
+#![tactic(auto)]
+
 use lots::decimal::{Numeral, number};
 use rolling_report::{calls_of, lot_file, refusal_line, replay, report, report_orders};
 use std::alloc::{AllocError, Global};

@@ -1,10 +1,10 @@
 -- What is handed over: the answer, and the caller's bytes.
-use Rattle.std.proofs.Common.{◌≡◌, ℕ, ◌+◌, ◌<◌, ◌≤◌, ltb, leb, List, ◌++◌, map, length, take, drop, Ok, Err, vec_items, Result, Vec, sym, refl, ap, ◌∙◌, inl, inr, arith}
+use Rattle.std.proofs.Common.{◌≡◌, ℕ, ◌+◌, ◌<◌, ◌≤◌, ltb, leb, List, ◌++◌, map, length, drop, Ok, Err, vec_items, Result, Vec, sym, refl, ap, ◌∙◌, inl, inr, arith}
 use lib.ListN.{length-map}
 use Rattle.std.proofs.lemmas.Bool.{cond-true, cond-false, lt-ltb, le-ltb, le-leb, lt-leb}
 use Rattle.std.specs.declared.alloc.Global.{Global}
 use Rattle.lots.specs.declared.lot.Lot.{Lot}
-use Rattle.lots.specs.Lots.{Terms, terms}
+use Rattle.lots.specs.Lots.{terms}
 use Rattle.lotfile.specs.declared.fault.WriteFault.TheVariants.{NoRoom, TooMany}
 use Rattle.lotfile.specs.declared.whole.FileError.{FileError}
 use Rattle.lotfile.specs.declared.whole.FileError.TheVariants.{Refused as RefusedLots, NoMemory as NoMemoryForLots}

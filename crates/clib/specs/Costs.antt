@@ -1,7 +1,6 @@
 -- The cost lines that bytes describe.
-use Rattle.std.specs.Prelude.{ℕ, List, [], ◌∷◌, Some, None, Ok, Err, Option, Result}
+use Rattle.std.specs.Prelude.{ℕ, List, [], ◌∷◌, Some, None, Ok, Err, Result}
 use Rattle.costs.specs.declared.line.CostLine.{CostLine}
-use Rattle.costs.specs.declared.lines.DatedCostsFault.{DatedCostsFault}
 use Rattle.costs.specs.Dated.{lines_fault}
 use Rattle.clib.specs.declared.error.Refusal.{Refusal}
 use Rattle.clib.specs.declared.error.Refusal.TheVariants.{Layout, Costs}

@@ -1,8 +1,7 @@
 -- Layers of netting that numbers describe, and what they make of a forecast.
-use Rattle.std.specs.Prelude.{ℕ, zero, suc, ◌+◌, ◌*◌, cond, List, [], ◌∷◌, length, take, drop, Some, None, Ok, Err, Option, Result, nat_lt}
+use Rattle.std.specs.Prelude.{ℕ, zero, suc, ◌*◌, cond, List, [], ◌∷◌, length, take, drop, Some, None, Ok, Err, Result, nat_lt}
 use Rattle.theory.specs.Netting as theory
 use Rattle.feeds.specs.declared.receipt.Receipt.{Receipt}
-use Rattle.feeds.specs.declared.netting.fault.NettingFault.{NettingFault}
 use Rattle.feeds.specs.Forecasts.{Forecast}
 use Rattle.feeds.specs.Netting.{above}
 use Rattle.feeds.specs.Receipts.{supplies, supply_fault}

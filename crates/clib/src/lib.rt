@@ -1,4 +1,6 @@
 // The planner for callers in C and Rust: a plan from bytes to the bytes of a lot file.
+#![tactic(auto)]
+
 ghost use Rattle.feeds.specs.Orders.{orders};
 ghost use Rattle.feeds.specs.Text.{forecast};
 ghost use Rattle.clib.specs.Answers.{Answered};

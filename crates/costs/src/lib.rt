@@ -1,4 +1,6 @@
 // Cost models: what a setup costs in each period, and what a unit costs by when it is made and when it is used.
+#![tactic(auto)]
+
 pub mod constant;
 pub mod dated;
 pub mod fault;

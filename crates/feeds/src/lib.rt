@@ -1,4 +1,6 @@
 // Feeds hand out the demand of one period after another.
+#![tactic(auto)]
+
 pub mod examples;
 pub mod fault;
 pub mod feed;

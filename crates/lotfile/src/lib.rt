@@ -1,4 +1,6 @@
 // Lots as words of 32 bits: at a place of a buffer, or as the bytes of a whole file.
+#![tactic(auto)]
+
 pub mod fault;
 #[cfg(test)]
 mod tests;

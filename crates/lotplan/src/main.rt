@@ -1,4 +1,6 @@
 // The program: it reads an input from standard input, and writes what its mode makes of it to standard output.
+#![tactic(auto)]
+
 use report::{lot_file, refusal_line, report, report_orders};
 use std::io::{Read, Write};
 use std::{env, io};

@@ -1,4 +1,6 @@
 // What every layer shares: the lot, the check of dated lines, numbers as decimal text, and words of 32 bits.
+#![tactic(auto)]
+
 pub mod dated;
 pub mod decimal;
 mod lot;

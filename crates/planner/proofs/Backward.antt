@@ -4,7 +4,7 @@ use mathlib.Core.Logic.{∥∥₁_elim}
 use native.Mathlib.Bridge.{le_prop}
 use Rattle.std.specs.Option.{option_map}
 use Rattle.std.proofs.lemmas.Bool.{cases_lt}
-use Rattle.theory.specs.Recursion.{Case, Lawful, over, least, last, lot_cost, Lot, lot, plan}
+use Rattle.theory.specs.Recursion.{Case, Lawful, over, last, lot_cost, Lot, lot, plan}
 use Rattle.theory.specs.Regeneration.{next, after, end_of}
 use Rattle.theory.proofs.Sums.{over_split}
 use Rattle.theory.proofs.Laws.{last_le, least_lot}

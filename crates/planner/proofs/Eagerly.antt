@@ -5,11 +5,11 @@ use Rattle.feeds.specs.declared.fault.FeedFault.{FeedFault}
 use Rattle.lots.specs.Lots.{Terms, terms}
 use Rattle.lots.specs.declared.lot.Lot as code
 use Rattle.lots.specs.declared.lot.LotKind.TheVariants.{Frozen}
-use Rattle.theory.specs.Eager.{after_read, eager_in, eager}
+use Rattle.theory.specs.Eager.{after_read, eager_in}
 use Rattle.theory.specs.Endings.{Ending}
 use Rattle.theory.specs.Recursion.{case_of, Lot}
 use Rattle.theory.specs.Regeneration.{proves, end_of}
-use Rattle.theory.specs.Series.{Call, read_call, take_call, Handed, Refusal, none_proved, Answer, given_lot, accepted_read, refused_call, Entry, given_by, read_by, periods_read, taken, lots, base, due_take, due_at, due_answer}
+use Rattle.theory.specs.Series.{Call, read_call, take_call, Handed, Refusal, none_proved, Answer, given_lot, accepted_read, refused_call, Entry, given_by, read_by, periods_read, taken, base, due_take, due_at, due_answer}
 use Rattle.theory.proofs.Eagerly.{with_lots, with_push, still, step_take, step_read}
 use Rattle.theory.proofs.Series.{taken_push, read_push}
 use Rattle.planner.specs.declared.refusals.ReadRefusal.{ReadRefusal}

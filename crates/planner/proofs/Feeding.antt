@@ -1,5 +1,5 @@
 -- What a feed's answers say of the demands still to come.
-use Rattle.std.proofs.Common.{◌≡◌, ℕ, zero, suc, ◌-◌, ◌<◌, ◌≤◌, List, [], ◌∷◌, length, get_or, drop, Some, None, Ok, Err, sym, refl, ap, ◌∙◌, add-zero, arith, length-drop, get_or-drop}
+use Rattle.std.proofs.Common.{◌≡◌, ℕ, zero, suc, ◌<◌, ◌≤◌, List, [], ◌∷◌, length, get_or, drop, Some, None, Ok, Err, sym, refl, ap, ◌∙◌, add-zero, arith, length-drop, get_or-drop}
 use Rattle.theory.specs.Endings.{Ending, finished_feed, faulty_feed}
 use Rattle.feeds.specs.Feeding.{next_told, others}
 use Rattle.feeds.specs.declared.fault.FeedFault.{FeedFault}

@@ -1,5 +1,5 @@
 -- Reading a whole feed into rows.
-use Rattle.std.proofs.Common.{◌≡◌, ℕ, zero, suc, ◌+◌, ◌-◌, ◌<◌, ◌≤◌, false, leb, List, [], ◌∷◌, map, length, get_or, drop, Ok, Err, sym, refl, ap, ◌∙◌, subst, add-one, arith}
+use Rattle.std.proofs.Common.{◌≡◌, ℕ, suc, ◌+◌, ◌-◌, ◌<◌, ◌≤◌, false, leb, List, [], ◌∷◌, map, length, get_or, drop, Ok, Err, sym, refl, ap, ◌∙◌, subst, add-one, arith}
 use Rattle.std.proofs.lemmas.Bool.{lt-leb, cond-false}
 use Rattle.lots.specs.Lots.{Terms}
 use Rattle.lots.specs.declared.lot.LotKind.TheVariants.{Closing}
@@ -15,7 +15,6 @@ use Rattle.planner.proofs.Steps.{Meets}
 use Rattle.planner.proofs.Growth.{grown_describes, empty_describes}
 use Rattle.planner.specs.Lots.{handed}
 use Rattle.planner.specs.Whole.{whole_plan}
-use Rattle.planner.specs.declared.refusal.PlanRefusal.{PlanRefusal}
 use Rattle.planner.specs.declared.refusal.PlanRefusal.TheVariants.{WindowFull, Feed}
 use Rattle.planner.proofs.Backward.{after_start}
 use Rattle.planner.proofs.Feeding.{next_demand, none_left}

@@ -3,7 +3,7 @@ use Rattle.std.proofs.Common.{◌≡◌, ℕ, zero, suc, ◌+◌, ◌-◌, ◌*�
 use mathlib.Core.Logic.{∥∥₁_elim}
 use native.Mathlib.Bridge.{le_prop}
 use Rattle.std.proofs.lemmas.Bool.{cases_lt, cond_both, cond-true, cond-false, le-leb, lt-leb}
-use Rattle.theory.specs.Recursion.{Case, LawfulCosts, Lawful, over, least, last, lot_cost}
+use Rattle.theory.specs.Recursion.{Case, LawfulCosts, Lawful, over, least, lot_cost}
 use Rattle.theory.specs.Regeneration.{Alike}
 use Rattle.theory.proofs.Sums.{over_step, over_none}
 use Rattle.theory.proofs.Laws.{least_le, last_le, least_none}

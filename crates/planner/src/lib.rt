@@ -1,4 +1,6 @@
 // The planner: it reads a forecast period by period and freezes each lot as soon as no later demand can change it.
+#![tactic(auto)]
+
 pub mod calls;
 pub mod closed;
 pub mod forecast;

@@ -1,5 +1,5 @@
 -- A plan has no more lots than periods, and so every input's plan has few.
-use Rattle.std.proofs.Common.{◌≡◌, ℕ, suc, ◌≤◌, leb, List, [], ◌∷◌, map, length, drop, Ok, Err, Result, arith, length-append}
+use Rattle.std.proofs.Common.{ℕ, suc, ◌≤◌, leb, List, [], ◌∷◌, length, drop, Ok, Err, Result, arith, length-append}
 use lib.ListN.{length-map}
 use Rattle.std.proofs.lemmas.Bool.{cond_both, leb-false}
 use Rattle.theory.specs.Endings.{Ending, finished_feed, faulty_feed}

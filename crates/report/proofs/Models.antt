@@ -1,5 +1,5 @@
 -- From a cost line to the costs of its input.
-use Rattle.std.proofs.Common.{◌≡◌, ℕ, Some, None, Ok, Err, Option, Result, refl, ap, ◌∙◌}
+use Rattle.std.proofs.Common.{◌≡◌, Some, None, Ok, Err, Option, Result, refl, ap, ◌∙◌}
 use Rattle.costs.specs.declared.fault.CostFault.{CostFault}
 use Rattle.costs.specs.Constant.{cost_fault}
 use Rattle.costs.specs.Making.{Terms, due}

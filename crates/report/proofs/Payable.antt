@@ -1,27 +1,25 @@
 -- The total of every plan is a number of 64 bits: together the lots cost the least cost of their periods, which is no more than
 -- making each period's demand in that period.
-use Rattle.std.proofs.Common.{◌≡◌, ℕ, zero, suc, ◌+◌, ◌-◌, ◌*◌, ◌^◌, ◌<◌, ◌≤◌, Bool, true, false, cond, ◌||◌, ltb, leb, List, [], ◌∷◌, map, length, get_or, drop, Some, None, Ok, Err, Option, Result, sym, refl, ap, ◌∙◌, suc-mul, mul-le-mul, mul-zero, arith}
+use Rattle.std.proofs.Common.{◌≡◌, ℕ, zero, suc, ◌+◌, ◌-◌, ◌*◌, ◌≤◌, ◌||◌, ltb, leb, List, [], ◌∷◌, map, length, get_or, drop, Some, None, Ok, Err, Option, Result, refl, ap, ◌∙◌, suc-mul, mul-le-mul, mul-zero, arith}
 use native.Mathlib.Nat.{sub_self}
 use Rattle.std.proofs.lemmas.Bool.{cond_both, leb-false, ltb-false}
 use Rattle.std.proofs.lemmas.Bool.Decides.{nat_tests}
 use Rattle.theory.specs.Endings.{Ending, finished_feed, faulty_feed}
-use Rattle.theory.specs.Recursion.{Case, Lot, case_of, over, lot_cost, least, plan}
+use Rattle.theory.specs.Recursion.{Case, Lot, case_of, lot_cost, least, plan}
 use Rattle.theory.specs.Splittings.{total}
 use Rattle.theory.proofs.Laws.{least_le, least_none, last_zero}
 use Rattle.theory.proofs.Plans.{plan_total}
 use Rattle.theory.proofs.Sums.{over_step, over_none}
-use Rattle.lots.specs.Lots.{Terms}
 use Rattle.lots.specs.declared.lot.LotKind.TheVariants.{Closing}
-use Rattle.costs.specs.Constant.{constant_price, cost_fault}
+use Rattle.costs.specs.Constant.{constant_price}
 use Rattle.costs.specs.declared.fault.CostFault.{CostFault}
-use Rattle.costs.specs.declared.fault.CostFault.TheVariants.{Setup, Unit as UnitCost, Holding}
 use Rattle.feeds.specs.declared.fault.FeedFault.{FeedFault}
 use Rattle.feeds.specs.Feeding.{Small}
 use Rattle.feeds.specs.Forecasts.{Forecast}
 use Rattle.planner.specs.Lots.{handed}
 use Rattle.report.specs.declared.cost_line.CostLine.{CostLine}
 use Rattle.report.specs.declared.refusal.Refusal.{Refusal}
-use Rattle.report.specs.declared.refusal.Refusal.TheVariants.{Costs, TooLong, WindowFull, Feed as FeedRefusal}
+use Rattle.report.specs.declared.refusal.Refusal.TheVariants.{Costs}
 use Rattle.report.specs.CostLines.{cost_line_of}
 use Rattle.report.specs.Costing.{costs_of_line, costs_due}
 use Rattle.report.specs.Planning.{plan_due, plan_at, input_plan}

@@ -1,7 +1,7 @@
 -- Printing lots one by one and adding up what they cost.
-use Rattle.std.proofs.Common.{◌≡◌, ℕ, ◌+◌, ◌<◌, ◌≤◌, List, [], ◌∷◌, ◌++◌, map, length, get_or, drop, sym, refl, ap, ◌∙◌, append_assoc, append-nil, arith}
+use Rattle.std.proofs.Common.{◌≡◌, ℕ, ◌+◌, ◌<◌, ◌≤◌, List, [], ◌∷◌, ◌++◌, map, length, get_or, drop, sym, ap, ◌∙◌, append_assoc, append-nil, arith}
 use Rattle.std.proofs.lemmas.List.{drop_more, drop_all}
-use Rattle.lots.specs.Lots.{Terms, terms}
+use Rattle.lots.specs.Lots.{terms}
 use Rattle.lots.specs.declared.lot.Lot.{Lot}
 use Rattle.report.specs.Lines.{lot_line, total_line}
 use Rattle.report.specs.Printing.{total_cost, lot_lines, plan_lines}

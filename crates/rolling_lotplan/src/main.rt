@@ -1,4 +1,6 @@
 // The program: it reads an input from standard input, and writes what its mode makes of it to standard output.
+#![tactic(auto)]
+
 use rolling_report::{Call, calls_of, lot_file, refusal_line, replay, report, report_orders};
 use std::io::{Read, Write};
 use std::{env, io};

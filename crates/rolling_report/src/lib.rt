@@ -1,4 +1,6 @@
 // What the program answers to its input: for each of its modes one call from bytes to bytes.
+#![tactic(auto)]
+
 pub mod cost_line;
 pub mod costing;
 pub mod filing;

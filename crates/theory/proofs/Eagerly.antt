@@ -1,6 +1,6 @@
 -- Eager planning is a run of reads and takes: one step of it is one call.
 use Rattle.std.proofs.Common.{◌≡◌, ℕ, zero, suc, ◌+◌, ◌-◌, ◌*◌, ◌<◌, List, [], ◌∷◌, ◌++◌, length, Some, None, Option, sym, refl, ap, ◌∙◌, subst, append_assoc, append-nil, arith}
-use Rattle.theory.specs.Eager.{Outcome, with_lot, after_read, eager_step, eager_in, eager, RunTo, EagerPlanningIsARun}
+use Rattle.theory.specs.Eager.{Outcome, with_lot, after_read, eager_step, eager_in, RunTo, EagerPlanningIsARun}
 use Rattle.theory.specs.Endings.{Ending}
 use Rattle.theory.specs.Recursion.{case_of, Lot}
 use Rattle.theory.specs.Regeneration.{proves, end_of}

@@ -1,4 +1,4 @@
-use Rattle.std.proofs.Common.{◌≡◌, vec_items, subst}
+use Rattle.std.proofs.Common.{vec_items, subst}
 use Rattle.feeds.specs.Forecasts.{Forecast}
 use Rattle.clib.specs.Outcomes.{Told}
 use Rattle.clib.specs.Plans.{file_due}

@@ -1,4 +1,4 @@
-use Rattle.std.proofs.Common.{◌≡◌, ◌<◌, ◌≤◌, length, vec_items, sym, ap, ◌∙◌, subst, arith, rules}
+use Rattle.std.proofs.Common.{◌<◌, length, vec_items, sym, ◌∙◌, subst, arith, rules}
 use Rattle.clib.specs.declared.answer.Answer.{Answer}
 use Rattle.clib.specs.Answers.{Answered}
 use Rattle.clib.specs.Outcomes.{Told}

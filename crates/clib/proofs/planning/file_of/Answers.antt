@@ -1,4 +1,4 @@
-use Rattle.std.proofs.Common.{◌≡◌, map, Err, vec_items, sym, ap, ◌∙◌, subst}
+use Rattle.std.proofs.Common.{map, Err, vec_items, sym, ap, ◌∙◌, subst}
 use Rattle.std.proofs.lemmas.Result.{err_from_is_err_and}
 use Rattle.clib.proofs.Answering.{filed_whole, filed_error}
 use Rattle.clib.proofs.planning.file_of.Goals as goal

@@ -1,4 +1,4 @@
-use Rattle.std.proofs.Common.{◌≡◌, map, length, vec_items, Result, Vec, sym, subst}
+use Rattle.std.proofs.Common.{map, length, vec_items, Result, Vec, sym, subst}
 use Rattle.std.proofs.lemmas.List.{take_rest}
 use Rattle.std.proofs.lemmas.Bool.{eqb-false}
 use Rattle.std.specs.declared.alloc.Global.{Global}

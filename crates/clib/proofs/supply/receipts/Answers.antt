@@ -1,4 +1,4 @@
-use Rattle.std.proofs.Common.{◌≡◌, ℕ, ◌-◌, List, [], ◌∷◌, ◌++◌, length, get_or, take, drop, vec_items, sym, ap, ◌∙◌, rules}
+use Rattle.std.proofs.Common.{ℕ, ◌-◌, List, [], ◌∷◌, ◌++◌, length, get_or, take, drop, vec_items, sym, ap, ◌∙◌, rules}
 use Rattle.feeds.specs.declared.receipt.Receipt.{Receipt}
 use Rattle.clib.specs.Layers.{receipts_of}
 use Rattle.clib.proofs.Reading.{receipt, receipts_more, receipts_end}

@@ -1,4 +1,4 @@
-use Rattle.std.proofs.Common.{Ok, sym, ap, ◌∙◌, inl, inr, arith}
+use Rattle.std.proofs.Common.{Ok, sym, ap, ◌∙◌, inr}
 use Rattle.std.proofs.lemmas.Result.{err_from_is_err_and}
 use Rattle.planner.proofs.Feeding.{told_some, told_end, told_fault}
 use Rattle.planner.proofs.Planning.{reading_none, reading_more, planned_fault, planned_whole}

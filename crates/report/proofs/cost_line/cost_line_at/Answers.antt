@@ -1,4 +1,4 @@
-use Rattle.std.proofs.Common.{◌≡◌, drop, sym, ap, ◌∙◌}
+use Rattle.std.proofs.Common.{drop, ap, ◌∙◌}
 use Rattle.std.proofs.lemmas.List.{take_rest}
 use Rattle.lots.specs.Decimals.{field_at}
 use Rattle.report.specs.CostLines.{line_of, line_behind, line_after, cost_line_of}

@@ -1,4 +1,4 @@
-use Rattle.std.proofs.Common.{◌≡◌, [], ◌∷◌, ◌++◌, vec_items, decimal, refl, append_assoc}
+use Rattle.std.proofs.Common.{[], ◌∷◌, ◌++◌, vec_items, decimal, refl, append_assoc}
 use Rattle.std.proofs.lemmas.Slice.{pushed}
 use Rattle.report.specs.Lines.{spaced}
 use Rattle.report.proofs.Writing.{written}

@@ -1,4 +1,4 @@
-use Rattle.std.proofs.Common.{◌≡◌, [], ◌∷◌, ◌++◌, vec_items, codes, refl, append_assoc}
+use Rattle.std.proofs.Common.{[], ◌∷◌, ◌++◌, vec_items, codes, refl, append_assoc}
 use Rattle.std.proofs.lemmas.Slice.{pushed}
 use Rattle.report.specs.Lines.{spaced, total_line}
 use Rattle.report.proofs.Writing.{behind, written}

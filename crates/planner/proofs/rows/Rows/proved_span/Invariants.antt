@@ -1,6 +1,6 @@
 use Rattle.std.proofs.Common.{◌≡◌, ℕ, ◌-◌, ◌<◌, ◌≤◌, Some}
 use Rattle.std.specs.Option.{option_map}
-use Rattle.theory.specs.Recursion.{Case, last, plan}
+use Rattle.theory.specs.Recursion.{Case, plan}
 use Rattle.theory.specs.Regeneration.{next}
 use Rattle.planner.specs.Describing.{Describes}
 use Rattle.planner.specs.Lots.{span_of}
