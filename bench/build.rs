@@ -5,9 +5,9 @@ fn main() {
     let kit = env::var("RATTLE_KIT").expect("RATTLE_KIT names the kit's folder; bench/run sets it");
     let here = env::var("CARGO_MANIFEST_DIR").unwrap();
     println!("cargo:rerun-if-env-changed=RATTLE_KIT");
-    println!("cargo:rerun-if-changed={here}/../target/staticlib/libclib.a");
-    println!("cargo:rustc-link-search=native={here}/../target/staticlib");
-    println!("cargo:rustc-link-search=native={kit}/lib");
+    println!("cargo:rerun-if-changed={here}/../crates/clib/out/libclib.a");
+    println!("cargo:rustc-link-search=native={here}/../crates/clib/out");
+    println!("cargo:rustc-link-search=native={kit}/c");
     println!("cargo:rustc-link-lib=static=clib");
-    println!("cargo:rustc-link-lib=static=rattle_c");
+    println!("cargo:rustc-link-lib=static=libc_c");
 }

@@ -13,7 +13,7 @@ fn main() {
     let folder = library.rsplit_once('/').map_or(".", |(folder, _)| folder);
     println!("cargo:rerun-if-changed={library}");
     println!("cargo:rustc-link-search=native={folder}");
-    println!("cargo:rustc-link-search=native={kit}/lib");
+    println!("cargo:rustc-link-search=native={kit}/c");
     println!("cargo:rustc-link-lib=static=clib");
-    println!("cargo:rustc-link-lib=static=rattle_c");
+    println!("cargo:rustc-link-lib=static=libc_c");
 }

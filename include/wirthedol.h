@@ -1,6 +1,6 @@
 /* Wirthedol: cheapest lots for a forecast, from C or from Rust.
  *
- * Link target/staticlib/libclib.a, which `rt staticlib clib` builds, and behind it the kit's lib/librattle_c.a.
+ * Link crates/clib/out/libclib.a, which `rt lib` in crates/clib builds, and behind it the kit's c/liblibc_c.a.
  *
  * All numbers in `costs` and `netting` have 32 bits: four bytes, the most significant first.
  *

@@ -7,7 +7,7 @@ ghost use Rattle.clib.specs.declared.error.PlanError.TheVariants.{NoMemory as Wi
 use costs::{DatedCostsError, DatedCostsFault};
 use feeds::NettingFault;
 use lotfile::{FileError, WriteFault};
-use lots::{Refusal as _, Refusal as Numbered};
+use lots::Refusal as Numbered;
 use planner::ReadRefusal;
 use std::alloc::AllocError;
 

@@ -3,6 +3,7 @@
 
 use report::{lot_file, refusal_line, report, report_orders};
 use std::io::{Read, Write};
+use std::process::ExitCode;
 use std::{env, io};
 
 // One byte more than an input may have, which is enough to see that it has too many.
@@ -43,12 +44,12 @@ fn read_input(rt: &HostRuntime) -> io::Result<Vec<u8>> {
 }
 
 // Ends with the status of a failure, once standard error says why.
-fn fail(rt: &HostRuntime, why: &[u8]) -> io::Result<()> {
+fn fail(rt: &HostRuntime, why: &[u8]) -> io::Result<ExitCode> {
     rt.stderr().write_all(why)?;
-    Err(io::Error::from(io::ErrorKind::InvalidInput))
+    Ok(ExitCode::FAILURE)
 }
 
-fn main(rt: HostRuntime) -> io::Result<()> {
+fn main(rt: HostRuntime) -> io::Result<ExitCode> {
     let heap = rt.alloc();
     let Some(mode) = asked(&rt)? else {
         return fail(&rt, b"usage: lotplan [orders | file] < input\n");
@@ -62,5 +63,6 @@ fn main(rt: HostRuntime) -> io::Result<()> {
             Err(refusal) => return fail(&rt, &refusal_line(heap, refusal)?),
         },
     };
-    rt.stdout().write_all(&bytes)
+    rt.stdout().write_all(&bytes)?;
+    Ok(ExitCode::SUCCESS)
 }

@@ -1,7 +1,7 @@
 // A whole forecast planned at once.
 ghost use Rattle.std.specs.Prelude.{◌≡◌, map, IfOk};
 ghost use Rattle.theory.specs.Recursion.{Case, plan};
-ghost use Rattle.theory.specs.Regeneration.{after as lotsAfter};
+ghost use Rattle.theory.specs.Regeneration.{after as lots_after};
 ghost use Rattle.lots.specs.Lots.{terms};
 ghost use Rattle.lots.specs.declared.lot.LotKind.TheVariants.{Closing};
 ghost use Rattle.planner.specs.Describing.{reading, Describes};
@@ -36,7 +36,7 @@ pub fn cheapest_plan<F: Feed + Drop, M: CostModel>(
 
 // The lots of the plan of all periods read that are made after the base.
 fn closing_lots(heap: Global, rows: &Rows) -> Result<Vec<Lot>, AllocError>
-    ensures { IfOk result (λ v. (c : Case) → Describes c (window rows.now) → map terms v.items ≡ map (handed Closing (reading (window rows.now))) (lotsAfter rows.now.base (plan c (reading (window rows.now))))) }
+    ensures { IfOk result (λ v. (c : Case) → Describes c (window rows.now) → map terms v.items ≡ map (handed Closing (reading (window rows.now))) (lots_after rows.now.base (plan c (reading (window rows.now))))) }
 {
     let mut lots = Vec::new(heap);
     let mut after = rows.base();

@@ -1,7 +1,7 @@
 -- What each refusal tells: its number and its place.
 use Rattle.std.specs.Prelude.{ℕ}
-use Rattle.costs.specs.Constant.{fault_number as costNumber}
-use Rattle.feeds.specs.Faults.{fault_number as feedNumber, fault_place as feedPlace}
+use Rattle.costs.specs.Constant.{fault_number as cost_number}
+use Rattle.feeds.specs.Faults.{fault_number as feed_number, fault_place as feed_place}
 use Rattle.planner.specs.Refusals.{read_number}
 use Rattle.planner.specs.declared.refusals.ReadRefusal.{ReadRefusal}
 use Rattle.planner.specs.declared.refusals.ReadRefusal.TheVariants.{LotWaits, WindowFull, LimitReached, FeedEnded, Feed}
@@ -14,7 +14,7 @@ read_told LotWaits = read_number LotWaits
 read_told WindowFull = read_number WindowFull
 read_told LimitReached = read_number LimitReached
 read_told FeedEnded = read_number FeedEnded
-read_told (Feed fault) = feedNumber fault
+read_told (Feed fault) = feed_number fault
 
 -- a fault of the feed is told at its own place, every other refusal of a read at 0
 abbrev pub read_place : ReadRefusal → ℕ
@@ -22,13 +22,13 @@ read_place LotWaits = 0
 read_place WindowFull = 0
 read_place LimitReached = 0
 read_place FeedEnded = 0
-read_place (Feed fault) = feedPlace fault
+read_place (Feed fault) = feed_place fault
 
 -- a fault of the costs is told under its own number
 abbrev pub refusal_number : Refusal → ℕ
 refusal_number TooLong = 27
 refusal_number OtherLayout = 26
-refusal_number (Costs fault) = costNumber fault
+refusal_number (Costs fault) = cost_number fault
 refusal_number (Read refusal) = read_told refusal
 
 -- what is wrong before the first demand is told at 0

@@ -2,7 +2,7 @@
 ghost use Rattle.std.specs.Prelude.{◌≡◌, ◌<◌, ◌≤◌};
 ghost use Rattle.std.specs.Option.{option_map};
 ghost use Rattle.theory.specs.Recursion.{Case, plan, lot};
-ghost use Rattle.theory.specs.Regeneration.{next as nextLot};
+ghost use Rattle.theory.specs.Regeneration.{next as next_lot};
 ghost use Rattle.lots.specs.Lots.{terms};
 ghost use Rattle.lots.specs.declared.lot.LotKind.TheVariants.{Frozen};
 ghost use Rattle.planner.specs.Describing.{reading, Describes};
@@ -19,7 +19,7 @@ impl Rows {
     pub fn next_span(&self, horizon: u32, after: u32) -> Option<Span>
         requires from { self.now.base ≤ after }
         requires through { horizon ≤ reading (window self.now) }
-        ensures means { (c : Case) → Describes c (window self.now) → result ≡ option_map span_of (nextLot after (plan c horizon)) }
+        ensures means { (c : Case) → Describes c (window self.now) → result ≡ option_map span_of (next_lot after (plan c horizon)) }
         ensures spans { SpansIf (window self.now) after result }
     {
         if horizon <= after {

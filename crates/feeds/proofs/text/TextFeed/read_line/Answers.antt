@@ -1,4 +1,4 @@
-use Rattle.std.proofs.Common.{◌+◌, Err, sym, ap, ◌∙◌}
+use Rattle.std.proofs.Common.{◌≡◌, ◌+◌, Err, sym, ap, ◌∙◌, arith}
 use Rattle.std.proofs.lemmas.Bool.{cond-true, cond-false, eq-eqb, ne_eqb, le-leb, lt-leb}
 use Rattle.feeds.specs.declared.fault.RecordFault.TheVariants.{OtherLayout, WrongPeriod, DemandTooLarge, NothingLeft, BytesAfterEnd}
 use Rattle.feeds.proofs.Texts.{record_told, period_is, at_front, at_line}
@@ -33,14 +33,16 @@ returns-then-line-period c =
 pub returns-then-line-gt-LARGEST_DEMAND : goal.returns-then-line-gt-LARGEST_DEMAND
 returns-then-line-gt-LARGEST_DEMAND c =
     let f = c.args.self.now in
+    let next : c.in-Some.line.period ≡ f.handed + 1 = omega arith in
     record_told _ _ _ _
     (ap (λ p. Err (DemandTooLarge f.place p)) (period_is _ f.few) ∙ sym (cond-false _ _ _ (lt-leb _ _ c.if-line-gt-LARGEST_DEMAND.true))
-    ∙ sym (cond-true _ _ _ (eq-eqb _ _ c.if-line-period.false))
+    ∙ sym (cond-true _ _ _ (eq-eqb _ _ next))
     ∙ at_line _ _ _ _ c.in-Other.ensures c.in-Some.ensures.told)
 
 pub returns-else-line-gt-LARGEST_DEMAND : goal.returns-else-line-gt-LARGEST_DEMAND
 returns-else-line-gt-LARGEST_DEMAND c =
     let f = c.args.self.now in
+    let next : c.in-Some.line.period ≡ f.handed + 1 = omega arith in
     record_told _ _ _ _
-    (sym (cond-true _ _ _ (le-leb _ _ c.if-line-gt-LARGEST_DEMAND.false)) ∙ sym (cond-true _ _ _ (eq-eqb _ _ c.if-line-period.false))
+    (sym (cond-true _ _ _ (le-leb _ _ c.if-line-gt-LARGEST_DEMAND.false)) ∙ sym (cond-true _ _ _ (eq-eqb _ _ next))
     ∙ at_line _ _ _ _ c.in-Other.ensures c.in-Some.ensures.told)
