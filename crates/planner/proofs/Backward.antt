@@ -100,17 +100,17 @@ module _ (c : Case) (w : Window) (h : Describes c w) (s : Span) (sp : Spans w w.
   begun : suc (s.from - 1) ≡ s.from
   begun = omega (arith, sp.later)
 
-  pub span_amount : (row_after w (s.through - w.base)).demanded ≡ (row_after w (s.from - 1 - w.base)).demanded + over c.demand s.from s.through
+  pub span_amount : (row_after w (s.through - w.base)).demanded ≡ (row_after w (s.from - 1 - w.base)).demanded + over c.demand_of s.from s.through
   span_amount =
-      let split = over_split c.demand 1 (s.from - 1) s.through (omega arith) (omega (arith, span_forward)) in
-      omega (arith, at_through.demanded, at_before.demanded, split, ap (λ a. over c.demand a s.through) begun)
+      let split = over_split c.demand_of 1 (s.from - 1) s.through (omega arith) (omega (arith, span_forward)) in
+      omega (arith, at_through.demanded, at_before.demanded, split, ap (λ a. over c.demand_of a s.through) begun)
 
   pub span_cost : (row_after w (s.through - w.base)).least ≡ (row_after w (s.from - 1 - w.base)).least + lot_cost c s.from s.through
   span_cost =
       omega (arith, at_through.least, at_before.least, least_lot c s.through (s.from - 1) (span_setup ∙ sym begun), ap (λ a. lot_cost c a s.through) begun)
 
-  pub span_filled : Lawful c → 1 ≤ over c.demand s.from s.through
-  span_filled lawful = subst (λ a. 1 ≤ over c.demand a s.through) begun (lot_filled c lawful s.through (s.from - 1) (span_setup ∙ sym begun))
+  pub span_filled : Lawful c → 1 ≤ over c.demand_of s.from s.through
+  span_filled lawful = subst (λ a. 1 ≤ over c.demand_of a s.through) begun (lot_filled c lawful s.through (s.from - 1) (span_setup ∙ sym begun))
 
 -- so a sound window makes lawful lots
 module _ (w : Window) (sound : ∥ Sound w ∥₁) (s : Span) (sp : Spans w w.base s) where
@@ -125,7 +125,7 @@ module _ (w : Window) (sound : ∥ Sound w ∥₁) (s : Span) (sp : Spans w w.ba
       omega (
         arith,
         span_amount x.case w x.describes s sp,
-        over_bound x.case.demand s.from 1000000 256 s.through (omega (arith, sp.read, sp.later)) (λ i _ _. x.modest i),
+        over_bound x.case.demand_of s.from 1000000 256 s.through (omega (arith, sp.read, sp.later)) (λ i _ _. x.modest i),
       ))
 
   pub some_cost : (row_after w (s.from - 1 - w.base)).least ≤ (row_after w (s.through - w.base)).least

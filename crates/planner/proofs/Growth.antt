@@ -30,8 +30,8 @@ row_grown c lawful w v K V d h m g = elim (cases_lt 0 d) [
     newest : RowOf c (reading w) (row_after w (length w.rows))
     newest = h.told (length w.rows) (omega arith)
 
-    demanded : g.row.demanded ≡ over c.demand 1 (suc (reading w))
-    demanded = omega (arith, g.demanded, newest.demanded, over_step c.demand 1 (reading w) (omega arith), m.demand)
+    demanded : g.row.demanded ≡ over c.demand_of 1 (suc (reading w))
+    demanded = omega (arith, g.demanded, newest.demanded, over_step c.demand_of 1 (reading w) (omega arith), m.demand)
 
 -- the rows there were stay where they are
 row_kept : {K : ℕ → ℕ} {V : ℕ → ℕ → ℕ} {d : ℕ} (w v : Window) (g : Grown K V d w v) (k : ℕ) → k ≤ length w.rows → row_after v k ≡ row_after w k

@@ -17,7 +17,7 @@ abbrev prolonged : Case → ℕ → (ℕ → ℕ) → (ℕ → ℕ → ℕ) → 
 prolonged c t K V d = record {
   setup = λ j. cond (leb j t) (c.setup j) (K j);
   price = λ j i. cond (leb i t) (c.price j i) (V j i);
-  demand = λ i. cond (leb i t) (c.demand i) d;
+  demand_of = λ i. cond (leb i t) (c.demand_of i) d;
 }
 
 module _ (c : Case) (t : ℕ) (K : ℕ → ℕ) (V : ℕ → ℕ → ℕ) (d : ℕ) where
@@ -34,13 +34,13 @@ module _ (c : Case) (t : ℕ) (K : ℕ → ℕ) (V : ℕ → ℕ → ℕ) (d : �
       later j i l m false = u.later j i l m
 
   prolonged_modest : Modest c → d ≤ 1000000 → Modest (prolonged c t K V d)
-  prolonged_modest w u i = cond_both (leb i t) (c.demand i) d (λ x. x ≤ 1000000) (λ _. w i) (λ _. u)
+  prolonged_modest w u i = cond_both (leb i t) (c.demand_of i) d (λ x. x ≤ 1000000) (λ _. w i) (λ _. u)
 
   prolonged_alike : Alike c (prolonged c t K V d) t
   prolonged_alike = record {
     setups = λ j _ l. sym (cond-true (leb j t) (c.setup j) (K j) (le-leb j t l));
     prices = λ j i _ _ l. sym (cond-true (leb i t) (c.price j i) (V j i) (le-leb i t l));
-    demands = λ i _ l. sym (cond-true (leb i t) (c.demand i) d (le-leb i t l));
+    demands = λ i _ l. sym (cond-true (leb i t) (c.demand_of i) d (le-leb i t l));
   }
 
   prolonged_meets : Meets (prolonged c t K V d) t K V d
@@ -49,7 +49,7 @@ module _ (c : Case) (t : ℕ) (K : ℕ → ℕ) (V : ℕ → ℕ → ℕ) (d : �
       record {
         setup = cond-false (leb (suc t) t) (c.setup (suc t)) (K (suc t)) past;
         price = λ j. cond-false (leb (suc t) t) (c.price j (suc t)) (V j (suc t)) past;
-        demand = cond-false (leb (suc t) t) (c.demand (suc t)) d past;
+        demand = cond-false (leb (suc t) t) (c.demand_of (suc t)) d past;
       }
 
 pub sound_grown : (w v : Window) (K : ℕ → ℕ) (V : ℕ → ℕ → ℕ) (d : ℕ) → LawfulCosts K V → d ≤ 1000000 → Grown K V d w v → Sound w → Sound v
@@ -68,7 +68,7 @@ sound_grown w v K V d u small g s =
 -- nothing is asked, and every setup costs 1
 pub sound_empty : Sound empty
 sound_empty = record {
-  case = record { setup = λ _. 1; price = λ _ _. 0; demand = λ _. 0 };
+  case = record { setup = λ _. 1; price = λ _ _. 0; demand_of = λ _. 0 };
   lawful = record {
     charged = λ _ _. omega arith;
     charge_fits = λ _ _. omega arith;
@@ -76,7 +76,7 @@ sound_empty = record {
     price_fits = λ _ _ _ _ _. omega arith;
   };
   modest = λ _. omega arith;
-  describes = empty_describes (record { setup = λ _. 1; price = λ _ _. 0; demand = λ _. 0 });
+  describes = empty_describes (record { setup = λ _. 1; price = λ _ _. 0; demand_of = λ _. 0 });
 }
 
 -- bounds
@@ -97,8 +97,8 @@ over_bound f a m (suc n) (suc b) l h = elim (cases_lt (suc b) a) [
 ]
 
 module _ (c : Case) (lawful : Lawful c) (modest : Modest c) where
-  demand_bound : (n : ℕ) → over c.demand 1 n ≤ n * 1000000
-  demand_bound n = over_bound c.demand 1 1000000 n n (omega arith) (λ i _ _. modest i)
+  demand_bound : (n : ℕ) → over c.demand_of 1 n ≤ n * 1000000
+  demand_bound n = over_bound c.demand_of 1 1000000 n n (omega arith) (λ i _ _. modest i)
 
   -- a lot over n periods costs its setup, and its units at their prices
   lot_bound : (a n b : ℕ) → 1 ≤ a → b < a + n → n ≤ 256 → lot_cost c a b ≤ 1000000000 + n * 1000000000000
@@ -106,11 +106,11 @@ module _ (c : Case) (lawful : Lawful c) (modest : Modest c) where
   lot_bound a n b l m k =
       omega (arith, lawful.charge_fits a l, near)
     where
-      priced : (i : ℕ) → a ≤ i → i < a + n → c.demand i * c.price a i ≤ 1000000000000
+      priced : (i : ℕ) → a ≤ i → i < a + n → c.demand_of i * c.price a i ≤ 1000000000000
       priced i p q = mul-le-mul (modest i) (lawful.price_fits a i l p (omega arith))
 
-      near : over (λ i. c.demand i * c.price a i) a b ≤ n * 1000000000000
-      near = over_bound (λ i. c.demand i * c.price a i) a 1000000000000 n b m (λ i p q. priced i p (omega arith))
+      near : over (λ i. c.demand_of i * c.price a i) a b ≤ n * 1000000000000
+      near = over_bound (λ i. c.demand_of i * c.price a i) a 1000000000000 n b m (λ i p q. priced i p (omega arith))
 
   pub least_bound : (n : ℕ) → least c n ≤ n * dearest
   least_bound zero = omega (arith, least_none c 0 (omega (arith, last_le c 0)))

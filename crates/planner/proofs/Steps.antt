@@ -12,13 +12,13 @@ use Rattle.planner.specs.Describing.{Window, row_after, reading, RowOf, Describe
 pub record Meets (c : Case) (t : ℕ) (K : ℕ → ℕ) (V : ℕ → ℕ → ℕ) (d : ℕ) : Type 0 where
   pub setup : c.setup (suc t) ≡ K (suc t)
   pub price : (j : ℕ) → c.price j (suc t) ≡ V j (suc t)
-  pub demand : c.demand (suc t) ≡ d
+  pub demand : c.demand_of (suc t) ≡ d
 
 -- a lot that begins in the next period costs its setup and what that period asks
-own_lot : (c : Case) (t : ℕ) → lot_cost c (suc t) (suc t) ≡ c.setup (suc t) + c.demand (suc t) * c.price (suc t) (suc t)
+own_lot : (c : Case) (t : ℕ) → lot_cost c (suc t) (suc t) ≡ c.setup (suc t) + c.demand_of (suc t) * c.price (suc t) (suc t)
 unfolding lot_cost
 own_lot c t =
-    omega (arith, over_step (λ i. c.demand i * c.price (suc t) i) (suc t) t (omega arith), over_none (λ i. c.demand i * c.price (suc t) i) (suc t) t (omega arith))
+    omega (arith, over_step (λ i. c.demand_of i * c.price (suc t) i) (suc t) t (omega arith), over_none (λ i. c.demand_of i * c.price (suc t) i) (suc t) t (omega arith))
 
 module _ (c : Case) (w : Window) (h : Describes c w) (K : ℕ → ℕ) (V : ℕ → ℕ → ℕ) (d : ℕ) (m : Meets c (reading w) K V d) where
   newest : RowOf c (reading w) (row_after w (length w.rows))
@@ -26,14 +26,14 @@ module _ (c : Case) (w : Window) (h : Describes c w) (K : ℕ → ℕ) (V : ℕ 
 
   pub own_is : own K V d w ≡ least c (reading w) + lot_cost c (suc (reading w)) (suc (reading w))
   own_is =
-      let at : d * V (suc (reading w)) (suc (reading w)) ≡ c.demand (suc (reading w)) * c.price (suc (reading w)) (suc (reading w)) =
+      let at : d * V (suc (reading w)) (suc (reading w)) ≡ c.demand_of (suc (reading w)) * c.price (suc (reading w)) (suc (reading w)) =
       cc (m.demand, m.price (suc (reading w))) in
       omega (arith, newest.least, own_lot c (reading w), m.setup)
 
   pub raised_is : (k : ℕ) → k < length w.rows → last c (reading w) ≤ suc (w.base + k) →
       raised V d w k ≡ least c (w.base + k) + lot_cost c (suc (w.base + k)) (suc (reading w))
   raised_is k l live =
-      let at : d * V (suc (w.base + k)) (suc (reading w)) ≡ c.demand (suc (reading w)) * c.price (suc (w.base + k)) (suc (reading w)) =
+      let at : d * V (suc (w.base + k)) (suc (reading w)) ≡ c.demand_of (suc (reading w)) * c.price (suc (w.base + k)) (suc (reading w)) =
       cc (m.demand, m.price (suc (w.base + k))) in
       omega (arith, h.live k l live, lot_cost_step c (suc (w.base + k)) (reading w) (omega arith))
 
@@ -53,7 +53,7 @@ module _ (c : Case) (w : Window) (h : Describes c w) (K : ℕ → ℕ) (V : ℕ 
       (picked.0, picked.1 ∙ sym is)
     where
       positive : (n : ℕ) → last c (suc (reading w)) ≡ n → 1 ≤ last c (suc (reading w))
-      positive zero e = omega (arith, idle_of_last c (suc (reading w)) e, over_step c.demand 1 (reading w) (omega arith), m.demand)
+      positive zero e = omega (arith, idle_of_last c (suc (reading w)) e, over_step c.demand_of 1 (reading w) (omega arith), m.demand)
       positive (suc n) e = omega arith
 
       enters : live_from w ≡ last c (reading w) - 1 - w.base

@@ -24,7 +24,7 @@ reading w = w.base + length w.rows
 
 -- a row tells the demand through its horizon, its least cost and its last setup
 pub record RowOf (c : Case) (horizon : ℕ) (r : Row) : Type 0 where
-  pub demanded : r.demanded ≡ over c.demand 1 horizon
+  pub demanded : r.demanded ≡ over c.demand_of 1 horizon
   pub least : r.least ≡ least c horizon
   pub last : r.last ≡ last c horizon
 
@@ -38,7 +38,7 @@ pub record Describes (c : Case) (w : Window) : Type 0 where
 
 -- no period asks for more than 1,000,000
 abbrev pub Modest : Case → Type 0
-Modest c = (i : ℕ) → c.demand i ≤ 1000000
+Modest c = (i : ℕ) → c.demand_of i ≤ 1000000
 
 -- the window is right about some lawful case
 pub record Sound (w : Window) : Type 0 where

@@ -61,7 +61,7 @@ fn main(rt: HostRuntime) -> io::Result<ExitCode> {
     let Some(mode) = asked(&rt)? else {
         return fail(
             &rt,
-            b"usage: lotplan [orders | file | replay CALLS] < input\n",
+            b"usage: rolling_lotplan [orders | file | replay CALLS] < input\n",
         );
     };
     let input = read_input(&rt)?;

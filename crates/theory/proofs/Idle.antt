@@ -13,18 +13,18 @@ no_setup_without_demand_lem c w t = (idle_of_last c t, last_idle c w t)
 pub idle_period : IdlePeriodChangesNothing
 idle_period c w t z = go (last c (suc t)) (last c t) refl refl
   where
-    alone : over c.demand (suc t) (suc t) ≡ 0
-    alone = omega (arith, over_step c.demand (suc t) t (omega arith), over_none c.demand (suc t) t (omega arith))
+    alone : over c.demand_of (suc t) (suc t) ≡ 0
+    alone = omega (arith, over_step c.demand_of (suc t) t (omega arith), over_none c.demand_of (suc t) t (omega arith))
 
-    whole : over c.demand 1 (suc t) ≡ over c.demand 1 t
-    whole = omega (arith, over_step c.demand 1 t (omega arith))
+    whole : over c.demand_of 1 (suc t) ≡ over c.demand_of 1 t
+    whole = omega (arith, over_step c.demand_of 1 t (omega arith))
 
     same_option : (j : ℕ) → j < t → lot_cost c (suc j) (suc t) ≡ lot_cost c (suc j) t
     same_option j l = lot_cost_idle c (suc j) t (suc t) (omega arith) (omega arith) alone
 
     go : (a b : ℕ) → last c (suc t) ≡ a → last c t ≡ b → (least c (suc t) ≡ least c t) × (last c (suc t) ≡ last c t)
     go zero b p q =
-        let idle : over c.demand 1 t ≡ 0 = omega (arith, whole, idle_of_last c (suc t) p) in
+        let idle : over c.demand_of 1 t ≡ 0 = omega (arith, whole, idle_of_last c (suc t) p) in
         (omega (arith, least_none c (suc t) p, least_idle c t idle), omega (arith, last_idle c w t idle))
     go (suc a) zero p q = absurd (omega (arith, last_idle c w (suc t) (omega (arith, whole, idle_of_last c t q))))
     go (suc a) (suc b) p q =

@@ -31,22 +31,22 @@ own_left c [] zs o = tt
 own_left c (y ∷ ys) zs o = (o.0, own_left c ys zs o.1)
 
 -- lots that adjoin hold all demand of their periods
-amounts_adjoin : (c : Case) (b : ℕ) (ys : List Lot) → Own c ys → Adjoins b ys → over c.demand 1 b + amounts ys ≡ over c.demand 1 (end_of b ys)
+amounts_adjoin : (c : Case) (b : ℕ) (ys : List Lot) → Own c ys → Adjoins b ys → over c.demand_of 1 b + amounts ys ≡ over c.demand_of 1 (end_of b ys)
 unfolding amounts end_of lot
 amounts_adjoin c b [] o a = omega arith
 amounts_adjoin c b (y ∷ ys) o a =
-    let q : y.amount ≡ over c.demand y.from y.through = ap (λ (v : Lot). v.amount) o.0.is_lot in
-    let f : over c.demand y.from y.through ≡ over c.demand (suc b) y.through = ap (λ k. over c.demand k y.through) a.0 in
+    let q : y.amount ≡ over c.demand_of y.from y.through = ap (λ (v : Lot). v.amount) o.0.is_lot in
+    let f : over c.demand_of y.from y.through ≡ over c.demand_of (suc b) y.through = ap (λ k. over c.demand_of k y.through) a.0 in
     omega (
       arith,
-      over_split c.demand 1 b y.through (omega arith) (omega (arith, a.0, a.1)),
+      over_split c.demand_of 1 b y.through (omega arith) (omega (arith, a.0, a.1)),
       amounts_adjoin c y.through ys o.1 a.2,
     )
 
 -- the first lots of a plan hold all demand up to their end
-front_amounts : (c : Case) (n : ℕ) (ys rest : List Lot) → plan c n ≡ ys ++ rest → amounts ys ≡ over c.demand 1 (end_of 0 ys)
+front_amounts : (c : Case) (n : ℕ) (ys rest : List Lot) → plan c n ≡ ys ++ rest → amounts ys ≡ over c.demand_of 1 (end_of 0 ys)
 unfolding amounts end_of
-front_amounts c n [] rest q = sym (over_none c.demand 1 0 (omega arith))
+front_amounts c n [] rest q = sym (over_none c.demand_of 1 0 (omega arith))
 front_amounts c n (y ∷ ys) rest q =
     let p = plan_adjoins c n in
     omega (
@@ -97,12 +97,12 @@ module _ {F : Type 0} (K : ℕ → ℕ) (V : ℕ → ℕ → ℕ) (ds : List ℕ
       let reach : m ≤ t = parts_reach c t first (in_parts c t first rest p) in
       let long : length ds ≡ length gross = ap length q ∙ length_nets s rs gross (length gross) in
       let read : t ≤ length ds = (within_limits K V ds ending es ran).demands in
-      let one : (i : ℕ) → 1 ≤ i → 1 ≤ i → i ≤ m → c.demand i ≡ net s rs gross i =
+      let one : (i : ℕ) → 1 ≤ i → 1 ≤ i → i ≤ m → c.demand_of i ≡ net s rs gross i =
       λ i o l u.
       ap (λ (xs : List ℕ). get_or xs (i - 1) 0) q ∙
       (nets_at s rs gross (length gross) (i - 1) (omega arith) ∙ ap (net s rs gross) (omega arith)) in
       let sum : over (net s rs gross) 1 m ≡ amounts first =
-      sym (over_same c.demand (net s rs gross) 1 m one) ∙ sym (front_amounts c t first rest p) in
+      sym (over_same c.demand_of (net s rs gross) 1 m one) ∙ sym (front_amounts c t first rest p) in
       subst (GreatestExcess s rs gross m) sum (net_is_greatest_excess s rs gross rising m)
 
   whole : (closing : List Handed) → Rests (case_of K V ds) (periods_read es) (base es) closing → WholeRun K V ds ending es closing

@@ -98,5 +98,5 @@ WindowTellsTheLastSetup =
 -- With lots settled after t periods, the setups after their end alone give the next period's last setup and least cost, once anything was asked.
 abbrev pub WindowGivesTheNextRow : Type 0
 WindowGivesTheNextRow =
-    (c : Case) → Lawful c → (t : ℕ) (ys : List Lot) → Settled c t ys → 1 ≤ over c.demand 1 (suc t) →
+    (c : Case) → Lawful c → (t : ℕ) (ys : List Lot) → Settled c t ys → 1 ≤ over c.demand_of 1 (suc t) →
     (j : ℕ) → BestAfter (end_of 0 ys) c (suc t) j → (last c (suc t) ≡ j) × (least c (suc t) ≡ option c (least c) (suc t) j)

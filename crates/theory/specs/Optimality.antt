@@ -6,7 +6,7 @@ use Rattle.theory.specs.Regeneration.{Alike, end_of, Adjoins, Filled}
 
 -- Period t has the option j: to make nothing while nothing was asked, or to set up in one of the periods 1 through t.
 abbrev pub Offered : Case → ℕ → ℕ → Type 0
-Offered c t zero = over c.demand 1 t ≡ 0
+Offered c t zero = over c.demand_of 1 t ≡ 0
 Offered c t (suc j) = j < t
 
 -- G(t) is at most every option, l(t) attains it, and every option above l(t) costs more.
@@ -28,12 +28,12 @@ LawsFixTheRecursion =
 -- There is no last setup exactly while there was no demand.
 abbrev pub NoSetupWithoutDemand : Type 0
 NoSetupWithoutDemand =
-    (c : Case) → Lawful c → (t : ℕ) → (last c t ≡ 0 → over c.demand 1 t ≡ 0) × (over c.demand 1 t ≡ 0 → last c t ≡ 0)
+    (c : Case) → Lawful c → (t : ℕ) → (last c t ≡ 0 → over c.demand_of 1 t ≡ 0) × (over c.demand_of 1 t ≡ 0 → last c t ≡ 0)
 
 -- A period with no demand leaves the least cost and the last setup as they were.
 abbrev pub IdlePeriodChangesNothing : Type 0
 IdlePeriodChangesNothing =
-    (c : Case) → Lawful c → (t : ℕ) → c.demand (suc t) ≡ 0 → (least c (suc t) ≡ least c t) × (last c (suc t) ≡ last c t)
+    (c : Case) → Lawful c → (t : ℕ) → c.demand_of (suc t) ≡ 0 → (least c (suc t) ≡ least c t) × (last c (suc t) ≡ last c t)
 
 -- What the recursion says of m periods rests on their charges, prices and demands alone.
 abbrev pub RecursionRestsOnItsPeriods : Type 0
@@ -62,7 +62,7 @@ pub record CheapestLots (c : Case) (n : ℕ) : Type 0 where
   pub sums : total (plan c n) ≡ least c n
   pub filled : Filled (plan c n)
   pub idle : ℕ
-  pub idles : over c.demand 1 idle ≡ 0
+  pub idles : over c.demand_of 1 idle ≡ 0
   pub adjoin : Adjoins idle (plan c n)
   pub through : end_of idle (plan c n) ≡ n
 

@@ -5,11 +5,11 @@ use Rattle.std.specs.Prelude.{ℕ, zero, suc, ◌+◌, ◌-◌, ◌*◌, ◌<◌
 pub record Case : Type 0 where
   pub setup : ℕ → ℕ
   pub price : ℕ → ℕ → ℕ
-  pub demand : ℕ → ℕ
+  pub demand_of : ℕ → ℕ
 
 -- The case of charges K, prices V and a list of demands; past the list nothing is asked.
 abbrev pub case_of : (ℕ → ℕ) → (ℕ → ℕ → ℕ) → List ℕ → Case
-case_of K V ds = record { setup = K; price = V; demand = λ i. slice_index ds (i - 1) }
+case_of K V ds = record { setup = K; price = V; demand_of = λ i. slice_index ds (i - 1) }
 
 -- Charges and prices in bounds, and no speculation: making one period later for the same use is never dearer.
 pub record LawfulCosts (K : ℕ → ℕ) (V : ℕ → ℕ → ℕ) : Type 0 where
@@ -29,7 +29,7 @@ over f a (suc b) = over f a b + cond (nat_le a (suc b)) (f (suc b)) 0
 
 -- What one lot costs that is made in a for all demand of a through b.
 unfoldable pub lot_cost : Case → ℕ → ℕ → ℕ
-lot_cost c a b = c.setup a + over (λ i. c.demand i * c.price a i) a b
+lot_cost c a b = c.setup a + over (λ i. c.demand_of i * c.price a i) a b
 
 -- What option j of period t costs, where g has the least costs before t: option 0 makes nothing, any other sets up in j for j through t.
 unfoldable pub option : Case → (ℕ → ℕ) → ℕ → ℕ → ℕ
@@ -43,7 +43,7 @@ pick o s (suc n) = cond (nat_le (o (suc n)) (o (pick o s n))) (suc n) (pick o s 
 
 -- The smallest option of period t: 0 while nothing was asked through t, and 1 from then on.
 unfoldable pub first_option : Case → ℕ → ℕ
-first_option c t = cond (over c.demand 1 t == 0) 0 1
+first_option c t = cond (over c.demand_of 1 t == 0) 0 1
 
 -- The option that is chosen for period t, where g has the least costs before t.
 unfoldable pub choice : Case → (ℕ → ℕ) → ℕ → ℕ
@@ -74,7 +74,7 @@ pub record Lot : Type 0 where
 
 -- The lot of a case for the periods a through b.
 unfoldable pub lot : Case → ℕ → ℕ → Lot
-lot c a b = record { from = a; through = b; amount = over c.demand a b; costs = lot_cost c a b }
+lot c a b = record { from = a; through = b; amount = over c.demand_of a b; costs = lot_cost c a b }
 
 -- One step of reading a plan back: none without a last setup, else the plan before it and the lot from it through n.
 unfoldable pub follow : Case → (ℕ → List Lot) → ℕ → ℕ → List Lot

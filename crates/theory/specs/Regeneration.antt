@@ -46,7 +46,7 @@ pub record Proved (c : Case) (b t : ℕ) (y : Lot) : Type 0 where
 pub record Alike (c e : Case) (t : ℕ) : Type 0 where
   pub setups : (j : ℕ) → 1 ≤ j → j ≤ t → c.setup j ≡ e.setup j
   pub prices : (j i : ℕ) → 1 ≤ j → j ≤ i → i ≤ t → c.price j i ≡ e.price j i
-  pub demands : (i : ℕ) → 1 ≤ i → i ≤ t → c.demand i ≡ e.demand i
+  pub demands : (i : ℕ) → 1 ≤ i → i ≤ t → c.demand_of i ≡ e.demand_of i
 
 -- Each lot begins right after the one before it, the first after b.
 abbrev pub Adjoins : ℕ → List Lot → Type 0

@@ -5,7 +5,7 @@ use Rattle.theory.specs.Regeneration.{end_of}
 
 -- A plan serves n periods where each demand is made in time, in its own period or before.
 abbrev pub Serves : Case → (ℕ → ℕ → ℕ) → ℕ → Type 0
-Serves c x n = (i : ℕ) → 1 ≤ i → i ≤ n → over (λ j. x j i) 1 i ≡ c.demand i
+Serves c x n = (i : ℕ) → 1 ≤ i → i ≤ n → over (λ j. x j i) 1 i ≡ c.demand_of i
 
 -- What period j costs: its charge where it makes at least one unit, and its units at their prices.
 unfoldable pub row : Case → (ℕ → ℕ → ℕ) → ℕ → ℕ → ℕ
@@ -18,7 +18,7 @@ cost c x n = over (row c x n) 1 n
 -- The plan that lots describe: each makes the demand of its periods in its first.
 unfoldable pub made_by : Case → List Lot → ℕ → ℕ → ℕ
 made_by c [] j i = 0
-made_by c (y ∷ ys) j i = cond (y.from == j && (nat_le y.from i && nat_le i y.through)) (c.demand i) (made_by c ys j i)
+made_by c (y ∷ ys) j i = cond (y.from == j && (nat_le y.from i && nat_le i y.through)) (c.demand_of i) (made_by c ys j i)
 
 -- The sum of the costs of lots.
 unfoldable pub total : List Lot → ℕ

@@ -77,7 +77,7 @@ returns c = record {
       let r = c.args.self.now in
       let w : Window = window r in
       let s = c.args.span in
-      let amount : c.at-end.result.demanded - c.at-before.result.demanded ≡ over d.demand s.from s.through =
+      let amount : c.at-end.result.demanded - c.at-before.result.demanded ≡ over d.demand_of s.from s.through =
       omega (arith, span_amount d w h s c.requires.spans, ap (λ x. x.demanded) c.at-before.ensures, ap (λ x. x.demanded) c.at-end.ensures) in
       let cost : c.at-end.result.least - c.at-before.result.least ≡ lot_cost d s.from s.through =
       omega (arith, span_cost d w h s c.requires.spans, ap (λ x. x.least) c.at-before.ensures, ap (λ x. x.least) c.at-end.ensures) in
