@@ -50,10 +50,9 @@ pub fn field(text: &[u8], most: usize, stop: u8) -> Option<Numeral>
 }
 
 // What `push_decimal` writes, `number` reads back.
-pub fn written_numbers_read_back() -> u8
+pub fn written_numbers_read_back()
     ensures { ReadsBack }
 {
-    0
 }
 
 // Writes the number behind what is there; where memory does not suffice, nothing is written.

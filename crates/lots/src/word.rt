@@ -76,8 +76,7 @@ impl Word {
 }
 
 // What `to_bytes` writes, `from_bytes` reads back, and the other way round.
-pub fn written_words_read_back() -> u8
+pub fn written_words_read_back()
     ensures { WordsReadBack }
 {
-    0
 }
