@@ -1,16 +1,12 @@
-use Rattle.std.proofs.Common.{sym, ◌∙◌}
-use Rattle.std.proofs.lemmas.List.{at_drop_all}
-use Rattle.lots.specs.Dated.{earned_first}
-use Rattle.lots.proofs.Lines.{earned_more, earned_here}
+use Rattle.std.proofs.Common.{◌≡◌, ℕ, ◌<◌, length, None, Some, MatchOption, rules}
+use Rattle.std.specs.List.{AllWithin, HoldsAt}
+use Rattle.lots.proofs.Lines.{earned_found}
 use Rattle.lots.proofs.dated.first_earned.Goals as goal
 
-pub returns-in-Some : goal.returns-in-Some
-returns-in-Some g c =
-    sym (earned_here g.L.DatedLine.earned _ _ _ _ c.loop-line-test.true c.line-item.is c.in-Some.ensures) ∙ c.loop-line.invariant
-
-pub loop-line-preserved : goal.loop-line-preserved
-loop-line-preserved g c =
-    sym (earned_more g.L.DatedLine.earned _ _ _ c.loop-line-test.true c.line-item.is c.in_default.ensures) ∙ c.loop-line.invariant
-
 pub returns : goal.returns
-returns g c = sym (at_drop_all (earned_first g.L.DatedLine.earned) _ _ c.loop-line-test.false) ∙ c.loop-line.invariant
+returns g c =
+    let xs = c.args.lines.now in
+    let earned = g.L.DatedLine.earned in
+    let found : MatchOption c.find_map.result (AllWithin (λ x. earned x ≡ None) xs 0 (length xs))
+    (λ y. (i : ℕ) × (i < length xs) × HoldsAt (λ x. earned x ≡ Some y) xs i × AllWithin (λ x. earned x ≡ None) xs 0 i) = search rules in
+    earned_found earned xs c.find_map.result found
