@@ -6,16 +6,13 @@ use Rattle.std.proofs.lemmas.Bool.{eqb-false, ne_eqb, ltb-false, or_parts, cond-
 use Rattle.costs.specs.Asking.{setup_told, unpriced, price_told}
 use Rattle.costs.specs.declared.line.CostLine.{CostLine}
 use Rattle.costs.specs.Dated.{empty_line, line_at, dated_setup, dated_price, holding_before, lines_fault, InForce}
+use Rattle.costs.specs.Shown.{Summed}
 use Rattle.costs.specs.InForce.{line_at_lem}
 use Rattle.costs.specs.Held.{held_between, held_on}
 
 pub none_of : {E : Type 0} (o : Option E) → is_some o ≡ false → o ≡ None
 none_of None e = refl
 none_of (Some f) e = let z : ◌≡◌ {A = ℕ} 0 1 = cc in absurd (omega arith)
-
--- the sums that are kept, one for each line
-abbrev pub Summed : List CostLine → List ℕ → Type 0
-Summed lines hs = hs ≡ map (λ x. holding_before lines x.date) lines
 
 pub length_summed : (lines : List CostLine) (hs : List ℕ) → Summed lines hs → length hs ≡ length lines
 length_summed lines hs s = ap length s ∙ length-map lines (λ x. holding_before lines x.date)
