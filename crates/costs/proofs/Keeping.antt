@@ -2,13 +2,13 @@
 use Rattle.std.specs.Prelude.{zero, suc}
 use Rattle.std.proofs.Common.{◌≡◌, ℕ, ◌+◌, ◌-◌, ◌*◌, ◌<◌, ◌≤◌, List, [], ◌∷◌, ◌++◌, map, length, get_or, take, Some, None, sym, ap, ◌∙◌, arith, refl}
 use Rattle.std.specs.List.{slice_get}
-use Rattle.std.proofs.lemmas.List.{get_or-map, get_or-take, length-map, length-take-le, map_push, map_more, take_more}
+use Rattle.std.proofs.lemmas.List.{get_or-map, get_or-take, length-map, length-take-le, map_push, take_more}
 use Rattle.std.proofs.lemmas.Option.{slice_get_within, slice_get-get_or, get_or_from_slice_get}
 use Rattle.costs.specs.declared.line.CostLine.{CostLine}
 use Rattle.costs.specs.declared.dated.HeldLine.{HeldLine}
 use Rattle.costs.specs.Dated.{empty_line, holding_before, lines_fault}
 use Rattle.costs.specs.InForce.{first_dated, dated_from_1, fair_line}
-use Rattle.costs.specs.Held.{held_first, next_later, held_next, held_fits}
+use Rattle.costs.specs.Held.{held_first, next_later, held_next, summed_more, held_fits}
 use Rattle.costs.proofs.Searching.{line_of, held_of}
 
 -- the first i lines, and what it costs to hold a unit through all the periods before the date of each
@@ -68,7 +68,5 @@ pub kept_more : (lines : List CostLine) (i : ℕ) (xs : List HeldLine) (x : Held
     → x.line ≡ get_or lines i empty_line → x.held ≡ holding_before lines (get_or lines i empty_line).date → Kept lines (i + 1) (xs ++ x ∷ [])
 kept_more lines i xs x h k l s = record {
   stored = map_push line_of xs x ∙ ap (λ ls. ls ++ x.line ∷ []) k.stored ∙ ap (λ y. take i lines ++ y ∷ []) l ∙ sym (take_more lines i empty_line h);
-  held =
-    map_push held_of xs x ∙ ap (λ ns. ns ++ x.held ∷ []) k.held ∙ ap (λ n. map (λ y. holding_before lines y.date) (take i lines) ++ n ∷ []) s
-    ∙ sym (map_more (λ y. holding_before lines y.date) lines i empty_line h);
+  held = summed_more lines (map held_of xs) (map held_of (xs ++ x ∷ [])) i x.held h k.held (map_push held_of xs x) s;
 }

@@ -20,7 +20,7 @@ impl CostFault {
     pub fn check(setup: u64, unit: u64, holding: u64) -> Result<(), CostFault>
         ensures { result_err result ≡ cost_fault setup unit holding }
     {
-        if setup < 1 || setup > 1_000_000_000 {
+        if !(1..=1_000_000_000).contains(&setup) {
             return Err(CostFault::Setup);
         }
         if unit > 100_000 {
