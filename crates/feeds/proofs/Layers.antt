@@ -14,7 +14,6 @@ use Rattle.feeds.specs.declared.netting.fault.NettingFault.{NettingFault}
 use Rattle.feeds.specs.declared.netting.fault.NettingFault.TheVariants.{Stock, Receipts}
 use Rattle.feeds.specs.declared.receipt.Receipt.{Receipt}
 use Rattle.feeds.specs.declared.receipt.ReceiptFault.{ReceiptFault}
-use Rattle.feeds.specs.declared.receipt.ReceiptFault.TheVariants.{TooMuch}
 use Rattle.feeds.specs.Feeding.{next_told, others, Small}
 use Rattle.feeds.specs.Netting.{risen, above}
 use Rattle.feeds.specs.Receipts.{receipt_fault, receipts_fault, coming_from, supplies, netted, supply_fault}
@@ -28,7 +27,7 @@ small_amount : (x : Receipt) → receipt_fault x ≡ None → x.amount ≤ 10000
 small_amount x e = go (ltb 1000000000 x.amount) refl
   where
     go : (t : Bool) → ltb 1000000000 x.amount ≡ t → x.amount ≤ 1000000000
-    go true h = absurd (some≢none TooMuch (sym (cond-true (ltb 1000000000 x.amount) _ _ h) ∙ e))
+    go true h = absurd (some≢none {X = ReceiptFault} (record {}) (sym (cond-true (ltb 1000000000 x.amount) _ _ h) ∙ e))
     go false h = ltb-false 1000000000 x.amount h
 
 none_earned : (x : Receipt) (xs : List Receipt) → earned_first receipt_fault (x ∷ xs) ≡ None → (receipt_fault x ≡ None) × (earned_first receipt_fault xs ≡ None)
