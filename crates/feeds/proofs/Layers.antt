@@ -1,5 +1,5 @@
 -- What holds of every netting layer: which are made, what they net, and what they tell.
-use Rattle.std.proofs.Common.{◌≡◌, ℕ, zero, suc, ◌+◌, ◌-◌, ◌≤◌, Bool, true, false, cond, ◌||◌, ltb, leb, List, [], ◌∷◌, ◌++◌, length, get_or, drop, Some, None, Ok, Err, Option, sym, refl, ap, ◌∙◌, subst, append_assoc, append-nil, add-one, arith, drop-cons}
+use Rattle.std.proofs.Common.{◌≡◌, ℕ, zero, suc, ◌+◌, ◌-◌, ◌≤◌, Bool, true, false, cond, ◌||◌, ltb, leb, List, [], ◌∷◌, ◌++◌, length, get_or, drop, Some, None, Ok, Err, Option, Result, MatchResult, sym, refl, ap, ◌∙◌, subst, append_assoc, append-nil, add-one, arith, drop-cons}
 use lib.Seq.{drop-length}
 use Rattle.std.specs.Option.{option_map, option_or}
 use Rattle.std.proofs.lemmas.Bool.{cond-true, cond-false, and_parts, and_from, or_parts, ltb-true, ltb-false, le-leb}
@@ -14,7 +14,6 @@ use Rattle.feeds.specs.declared.netting.fault.NettingFault.{NettingFault}
 use Rattle.feeds.specs.declared.netting.fault.NettingFault.TheVariants.{Stock, Receipts}
 use Rattle.feeds.specs.declared.receipt.Receipt.{Receipt}
 use Rattle.feeds.specs.declared.receipt.ReceiptFault.{ReceiptFault}
-use Rattle.feeds.specs.declared.receipt.ReceiptFault.TheVariants.{TooMuch}
 use Rattle.feeds.specs.Feeding.{next_told, others, Small}
 use Rattle.feeds.specs.Netting.{risen, above}
 use Rattle.feeds.specs.Receipts.{receipt_fault, receipts_fault, coming_from, supplies, netted, supply_fault}
@@ -28,7 +27,7 @@ small_amount : (x : Receipt) → receipt_fault x ≡ None → x.amount ≤ 10000
 small_amount x e = go (ltb 1000000000 x.amount) refl
   where
     go : (t : Bool) → ltb 1000000000 x.amount ≡ t → x.amount ≤ 1000000000
-    go true h = absurd (some≢none TooMuch (sym (cond-true (ltb 1000000000 x.amount) _ _ h) ∙ e))
+    go true h = absurd (some≢none {X = ReceiptFault} (record {}) (sym (cond-true (ltb 1000000000 x.amount) _ _ h) ∙ e))
     go false h = ltb-false 1000000000 x.amount h
 
 none_earned : (x : Receipt) (xs : List Receipt) → earned_first receipt_fault (x ∷ xs) ≡ None → (receipt_fault x ≡ None) × (earned_first receipt_fault xs ≡ None)
@@ -122,6 +121,15 @@ pub net_small : (rs : List theory.Receipt) (i stock : ℕ) (ds : List ℕ) → S
 unfolding netted
 net_small rs i stock [] h = tt
 net_small rs i stock (d ∷ ds) h = (omega (arith, h.0), net_small rs (i + 1) _ ds h.1)
+
+-- what the feed below told, where its fault was set apart to rise
+pub below_fault : {D : Type 0} (told : Result (Option ℕ) FeedFault) (b : D) (fault : FeedFault) → MatchResult told (λ o. ◌≡◌ {A = Result (Option ℕ) D} (Err b) (Ok o)) (λ f. fault ≡ f) → told ≡ Err fault
+below_fault (Ok o) b fault h = let z : ◌≡◌ {A = ℕ} 0 1 = cc in absurd (omega arith)
+below_fault (Err f) b fault h = ap Err (sym h)
+
+pub below_demand : (D : Type 0) (told : Result (Option ℕ) FeedFault) (o : Option ℕ) → MatchResult told (λ x. ◌≡◌ {A = Result (Option ℕ) D} (Ok o) (Ok x)) (λ f. ⊥) → told ≡ Ok o
+below_demand D (Ok x) o h = let z : o ≡ x = cc in ap Ok (sym z)
+below_demand D (Err f) o h = absurd h
 
 -- what was told of a list says what the list is
 pub told_fault : (ds : List ℕ) (e : Ending FeedFault) (f : FeedFault) → Err f ≡ next_told ds e → (ds ≡ []) × (e ≡ faulty_feed f)

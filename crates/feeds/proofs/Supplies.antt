@@ -1,14 +1,9 @@
 -- One period of a supply: what comes in it, and what is left to come.
-use Rattle.std.proofs.Common.{◌≡◌, ℕ, ◌+◌, ◌-◌, ◌<◌, ◌≤◌, true, false, ◌&&◌, eqb, leb, List, [], ◌∷◌, length, get_or, drop, sym, refl, ap, ◌∙◌, subst, arith}
-use Rattle.std.proofs.lemmas.List.{drop_more}
+use Rattle.std.proofs.Common.{◌≡◌, ◌≢◌, ℕ, ◌+◌, ◌-◌, ◌<◌, ◌≤◌, true, false, ◌&&◌, eqb, leb, List, [], ◌∷◌, length, get_or, drop, sym, refl, ap, ◌∙◌, subst, arith}
 use Rattle.std.proofs.lemmas.Bool.{cond-true, cond-false, and_parts, and_from, leb-true, le-leb, eq-eqb, ne_eqb}
 use Rattle.theory.specs.Netting as theory
 use Rattle.feeds.specs.declared.receipt.Receipt.{Receipt}
 use Rattle.feeds.specs.Receipts.{coming_from, supplies, netted}
-
--- what is still to come begins with the receipt that was read
-pub drop_read : (xs : List Receipt) (i : ℕ) (x : Receipt) → i < length xs → x ≡ get_or xs i x → drop i xs ≡ x ∷ drop (i + 1) xs
-drop_read xs i x h e = drop_more xs i x h ∙ ap (λ y. y ∷ drop (i + 1) xs) (sym e)
 
 -- what coming_from says of the first receipt and of the others
 pub record Comes (p : ℕ) (x : Receipt) (xs : List Receipt) : Type 0 where
@@ -77,26 +72,28 @@ pub net_left : (i stock : ℕ) (xs : List Receipt) (ds : List ℕ) → xs ≡ []
 net_left i stock xs ds e =
     ap (λ l. netted (supplies l) i stock ds) e ∙ net_ended i (i + 1) stock ds ∙ ap (λ l. netted (supplies l) (i + 1) stock ds) (sym e)
 
--- the same where the receipts before `due` have come, and x is the next of them
-module _ (xs : List Receipt) (due p : ℕ) (x : Receipt) (l : due < length xs) (read : x ≡ get_or xs due x) (coming : coming_from p (drop due xs) ≡ true) where
-  next : coming_from p (x ∷ drop (due + 1) xs) ≡ true
-  next = subst (λ r. coming_from p r ≡ true) (drop_read xs due x l read) coming
+-- the receipt at the front of a queue is the first of them
+pub front_first : (xs : List Receipt) (x : Receipt) → 0 < length xs → x ≡ get_or xs 0 x → xs ≡ x ∷ drop 1 xs
+front_first [] x l e = absurd (omega arith)
+front_first (y ∷ xs) x l e = ap (λ z. z ∷ xs) (sym e)
 
-  pub due_comes : Comes p x (drop (due + 1) xs)
-  due_comes = comes p x _ next
+-- a period of a queue whose front is x
+module _ (xs : List Receipt) (p : ℕ) (x : Receipt) (front : xs ≡ x ∷ drop 1 xs) (coming : coming_from p xs ≡ true) where
+  whole : coming_from p (x ∷ drop 1 xs) ≡ true
+  whole = subst (λ r. coming_from p r ≡ true) front coming
 
-  pub not_yet : p < x.period → theory.received (supplies (drop due xs)) p ≡ 0
-  not_yet h = nothing_before p x.period (drop due xs) (subst (λ r. coming_from x.period r ≡ true) (sym (drop_read xs due x l read)) (coming_later p x.period x _ next (omega arith))) h
+  pub front_comes : Comes p x (drop 1 xs)
+  front_comes = comes p x _ whole
 
-  pub still_coming : p < x.period → coming_from (p + 1) (drop due xs) ≡ true
-  still_coming h = subst (λ r. coming_from (p + 1) r ≡ true) (sym (drop_read xs due x l read)) (coming_later p (p + 1) x _ next (omega arith))
+  later_whole : (q : ℕ) → q ≤ x.period → coming_from q xs ≡ true
+  later_whole q l = subst (λ r. coming_from q r ≡ true) (sym front) (coming_later p q x _ whole l)
 
-  pub now_comes : x.period ≤ p → theory.received (supplies (drop due xs)) p ≡ x.amount
-  now_comes h = ap (λ r. theory.received (supplies r) p) (drop_read xs due x l read) ∙ comes_now p x _ next h
+  pub not_yet : p ≢ x.period → theory.received (supplies xs) p ≡ 0
+  not_yet h = nothing_before p x.period xs (later_whole x.period (omega arith)) (omega (arith, front_comes.date, h))
 
-  pub others_coming : x.period ≤ p → coming_from (p + 1) (drop (due + 1) xs) ≡ true
-  others_coming h = let same : x.period + 1 ≡ p + 1 = omega (arith, due_comes.date) in subst (λ q. coming_from q (drop (due + 1) xs) ≡ true) same due_comes.others
+  pub now_comes : p ≡ x.period → theory.received (supplies xs) p ≡ x.amount
+  now_comes h = ap (λ r. theory.received (supplies r) p) front ∙ comes_now p x _ whole (omega (arith, h))
 
-  pub net_on : x.period ≤ p → (stock : ℕ) (ds : List ℕ) → netted (supplies (drop (due + 1) xs)) (p + 1) stock ds ≡ netted (supplies (drop due xs)) (p + 1) stock ds
+  pub net_on : p ≡ x.period → (stock : ℕ) (ds : List ℕ) → netted (supplies (drop 1 xs)) (p + 1) stock ds ≡ netted (supplies xs) (p + 1) stock ds
   net_on h stock ds =
-      sym (net_past (p + 1) stock x (drop (due + 1) xs) ds (omega arith)) ∙ ap (λ r. netted (supplies r) (p + 1) stock ds) (sym (drop_read xs due x l read))
+      sym (net_past (p + 1) stock x (drop 1 xs) ds (omega (arith, h))) ∙ ap (λ r. netted (supplies r) (p + 1) stock ds) (sym front)

@@ -1,5 +1,6 @@
 -- What a supply and a netting layer mean.
-use Rattle.std.specs.Prelude.{ℕ, ◌+◌, min, List, drop, vec_items}
+use Rattle.std.specs.Prelude.{ℕ, ◌+◌, min, List}
+use Rattle.std.specs.VecDeque.{deque_items}
 use Rattle.theory.specs.Endings.{Ending, finished_feed, faulty_feed}
 use Rattle.theory.specs.Netting as theory
 use Rattle.feeds.specs.declared.fault.FeedFault.{FeedFault}
@@ -9,7 +10,7 @@ use Rattle.feeds.specs.Receipts.{supplies, netted}
 
 -- the receipts still to come
 abbrev pub left : Supply → List theory.Receipt
-left s = supplies (drop s.due (vec_items s.receipts))
+left s = supplies (deque_items s.receipts)
 
 -- what comes in the period that is due
 abbrev pub received_now : Supply → ℕ

@@ -9,14 +9,13 @@ use Rattle.feeds.specs.declared.netting.fault.NettingFault.{NettingFault}
 use Rattle.feeds.specs.declared.netting.fault.NettingFault.TheVariants.{Stock, Receipts}
 use Rattle.feeds.specs.declared.receipt.Receipt.{Receipt}
 use Rattle.feeds.specs.declared.receipt.ReceiptFault.{ReceiptFault}
-use Rattle.feeds.specs.declared.receipt.ReceiptFault.TheVariants.{TooMuch}
 
 -- what a receipt earns by its amount
 abbrev pub receipt_fault : Receipt → Option ReceiptFault
-receipt_fault x = cond (nat_lt 1000000000 x.amount) (Some TooMuch) None
+receipt_fault x = cond (nat_lt 1000000000 x.amount) (Some (record {})) None
 
 abbrev pub receipt_number : ReceiptFault → ℕ
-receipt_number TooMuch = 7
+receipt_number f = 7
 
 -- why receipts are refused: more than 32, dates that do not rise from 1 or later, or an amount
 abbrev pub receipts_fault : List Receipt → Option (DatedFault ReceiptFault)

@@ -1,5 +1,5 @@
 // The netting layer: over any feed, what stock and receipts leave of its demands; itself a feed.
-ghost use Rattle.std.specs.Prelude.{◌≡◌, Ok, Err, MatchResult};
+ghost use Rattle.std.specs.Prelude.{◌≡◌};
 ghost use Rattle.feeds.specs.Netting.{net_of, risen, above};
 
 use crate::fault::FeedFault;
@@ -17,29 +17,17 @@ pub struct Netting<F> {
 
 // A fault of the feed below, on its way up.
 #[derive(Clone, Copy)]
-struct Below {
-    fault: FeedFault,
-}
+struct Below(FeedFault);
 
 impl From<Below> for FeedFault {
-    ghost from_gives = { λ b r. r ≡ risen b.fault };
+    ghost from_gives = { λ b r. r ≡ risen b.0 };
 
     fn from(below: Below) -> FeedFault {
-        let FeedFault::Record { fault, layers } = below.fault;
+        let FeedFault::Record { fault, layers } = below.0;
         FeedFault::Record {
             fault,
             layers: layers.saturating_add(1),
         }
-    }
-}
-
-// What the feed below told, with its fault about to rise.
-fn from_below(told: Result<Option<u32>, FeedFault>) -> Result<Option<u32>, Below>
-    ensures { MatchResult result (λ o. told ≡ Ok o) (λ b. told ≡ Err b.fault) }
-{
-    match told {
-        Ok(demand) => Ok(demand),
-        Err(fault) => Err(Below { fault }),
     }
 }
 
@@ -51,7 +39,7 @@ impl<F: Feed> Feed for Netting<F> {
     ghost reached = { λ n. F.Feed.reached n.feed };
 
     fn next(&mut self) -> Result<Option<u32>, FeedFault> {
-        let Some(gross) = from_below(self.feed.next())? else {
+        let Some(gross) = self.feed.next().map_err(Below)? else {
             return Ok(None);
         };
         Ok(Some(self.supply.meet(gross)))

@@ -9,12 +9,9 @@ pub struct Receipt {
     pub amount: u64,
 }
 
-// Why a receipt is refused.
+// The one fault that a receipt itself can have: its amount is above 1,000,000,000.
 #[derive(Clone, Copy, PartialEq, Eq, Debug)]
-pub enum ReceiptFault {
-    // The amount is above 1,000,000,000.
-    TooMuch,
-}
+pub struct ReceiptFault;
 
 impl DatedLine for Receipt {
     type Fault = ReceiptFault;
@@ -28,10 +25,7 @@ impl DatedLine for Receipt {
     }
 
     fn fault(&self) -> Option<ReceiptFault> {
-        if self.amount > 1_000_000_000 {
-            return Some(ReceiptFault::TooMuch);
-        }
-        None
+        (self.amount > 1_000_000_000).then_some(ReceiptFault)
     }
 }
 
@@ -39,8 +33,6 @@ impl Refusal for ReceiptFault {
     ghost numbered = { receipt_number };
 
     fn number(&self) -> u32 {
-        match self {
-            ReceiptFault::TooMuch => 7,
-        }
+        7
     }
 }

@@ -41,6 +41,5 @@ pub fn check_supply(stock: u64, receipts: &[Receipt]) -> Result<(), NettingFault
     if stock > 1_000_000_000 {
         return Err(NettingFault::Stock);
     }
-    check_dated(receipts, 0, 32, FirstDate::AtLeast(1))?;
-    Ok(())
+    Ok(check_dated(receipts, 0, 32, FirstDate::AtLeast(1))?)
 }

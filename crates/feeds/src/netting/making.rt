@@ -18,16 +18,16 @@ impl<F> Netting<F> {
     pub fn new(feed: F, stock: u64, receipts: Vec<Receipt>) -> Result<Netting<F>, NettingRefused<F>>
         ensures { Made feed stock receipts result }
     {
-        if let Err(fault) = check_supply(stock, receipts.as_slice()) {
-            return Err(NettingRefused {
+        match check_supply(stock, &receipts) {
+            Ok(()) => Ok(Netting {
+                feed,
+                supply: Supply::new(stock, receipts),
+            }),
+            Err(fault) => Err(NettingRefused {
                 fault,
                 feed,
                 receipts,
-            });
+            }),
         }
-        Ok(Netting {
-            feed,
-            supply: Supply::new(stock, receipts),
-        })
     }
 }

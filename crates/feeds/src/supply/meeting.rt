@@ -1,4 +1,5 @@
 ghost use Rattle.std.specs.Prelude.{◌≡◌, ℕ, ◌+◌, ◌*◌, ◌≤◌, List, ◌∷◌, None};
+ghost use Rattle.std.specs.VecDeque.{deque_len};
 ghost use Rattle.feeds.specs.Receipts.{supplies, netted, supply_fault};
 ghost use Rattle.feeds.specs.Netting.{received_now, net_of, net_with, net_after};
 
@@ -14,8 +15,7 @@ impl Supply {
     {
         Supply {
             stock,
-            receipts,
-            due: 0,
+            receipts: receipts.into(),
             period: 1,
         }
     }
@@ -24,20 +24,19 @@ impl Supply {
     fn receive(&mut self) -> u64
         ensures told { result ≡ received_now self.old }
         ensures stock { self.new.stock ≡ self.old.stock }
-        ensures room { self.new.stock + result ≤ 1000000000 * (self.new.due + 1) }
+        ensures room { self.new.stock + result + 1000000000 * deque_len self.new.receipts ≤ 33000000000 }
         ensures later { (stock : ℕ) (ds : List ℕ) → net_with self.new stock ds ≡ net_after self.old stock ds }
     {
-        if self.due == self.receipts.len() {
+        let Some(&next) = self.receipts.front() else {
             return 0;
-        }
-        let receipt = self.receipts[self.due];
-        if self.period < u64::from(receipt.date()) {
-            self.period += 1;
-            return 0;
-        }
-        self.due += 1;
+        };
+        let comes_now = u64::from(next.date()) == self.period;
         self.period += 1;
-        receipt.amount
+        if !comes_now {
+            return 0;
+        }
+        self.receipts.pop_front();
+        next.amount
     }
 
     // What the demand of the period that is due still wants once what is available is spent on it.

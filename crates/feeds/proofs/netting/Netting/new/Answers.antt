@@ -3,9 +3,9 @@ use Rattle.feeds.specs.Receipts.{supplies, supply_fault}
 use Rattle.feeds.proofs.Layers.{supply_right, coming_rising, nets_are}
 use Rattle.feeds.proofs.netting.Netting.new.Goals as goal
 
-pub returns : goal.returns
-returns g c =
-    let right : supply_fault c.args.stock (vec_items c.args.receipts) ≡ None = ap (supply_fault c.args.stock) (sym c.as_slice.ensures.value) ∙ sym c.in_default.ensures in (
+pub returns-in-Ok : goal.returns-in-Ok
+returns-in-Ok g c =
+    let right : supply_fault c.args.stock (vec_items c.args.receipts) ≡ None = ap (supply_fault c.args.stock) (sym c.deref.ensures.value) ∙ sym c.in-Ok.ensures in (
       right,
       refl,
       record {

@@ -1,56 +1,40 @@
-use Rattle.std.proofs.Common.{◌≡◌, ◌<◌, [], length, drop, vec_items, sym, refl, arith}
-use Rattle.std.proofs.lemmas.List.{drop_all}
-use Rattle.feeds.proofs.Supplies.{nothing_left, net_left, due_comes, not_yet, still_coming, now_comes, others_coming, net_on}
+use Rattle.std.proofs.Common.{◌≡◌, ◌<◌, ◌+◌, true, [], ◌∷◌, drop, sym, ap, ◌∙◌, arith}
+use Rattle.std.specs.VecDeque.{deque_items, deque_len}
+use Rattle.std.proofs.lemmas.Bool.{false≢true}
+use Rattle.std.proofs.lemmas.List.{nil_from_length}
+use Rattle.feeds.specs.Receipts.{supplies, netted}
+use Rattle.feeds.proofs.Supplies.{front_first, nothing_left, net_left, not_yet, now_comes, net_on}
 use Rattle.feeds.proofs.supply.Supply.receive.Goals as goal
-use Rattle.feeds.proofs.supply.Supply.receive.Goals.{After-from}
+use Rattle.feeds.proofs.supply.Supply.receive.Goals.{In_default, In-Some}
 
-pub returns-then-self-len : goal.returns-then-self-len
-returns-then-self-len c =
-    let s = c.args.self.now in
-    let none : drop s.due (vec_items s.receipts) ≡ [] = drop_all s.due (vec_items s.receipts) (omega (arith, s.receipts.ok.0, c.if-self-len.true, c.len.ensures)) in
-    record { told = sym (nothing_left _ _ none); stock = refl; room = omega (arith, s.bounded); later = λ stock ds. net_left _ stock _ ds none }
+none_left : (c : In_default) → deque_items c.args.self.now.receipts ≡ []
+none_left c =
+    let q = c.args.self.now.receipts in
+    let none : 0 < deque_len q → ⊥ = λ l. false≢true (c.in_default.ensures.variant.1 l) in
+    nil_from_length _ (omega (arith, q.ok.0, none))
 
--- a receipt is left
-some_left : (c : After-from) → c.args.self.now.due < length (vec_items c.args.self.now.receipts)
-some_left c = let s = c.args.self.now in omega (arith, s.receipts.ok.0, s.within, c.if-self-len.false, c.len.ensures)
+pub returns-in_default-clause-told : goal.returns-in_default-clause-told
+returns-in_default-clause-told c = sym (nothing_left _ _ (none_left c))
 
-pub invariant_of-self : goal.invariant_of-self
-invariant_of-self c =
-    let s = c.args.self.now in
-    let at = (goal.at.invariant_of-self c).After-from in
-    record { few = s.few; within = s.within; bounded = s.bounded; coming = still_coming _ _ _ c.index.result.now (some_left at) c.index.ensures s.coming (omega (arith, c.if-self-from.true, c.from.ensures, c.date.ensures)) }
+pub returns-in_default-clause-later : goal.returns-in_default-clause-later
+returns-in_default-clause-later c = λ stock ds. net_left _ stock _ ds (none_left c)
 
-pub returns-then-self-from : goal.returns-then-self-from
-returns-then-self-from c =
-    let s = c.args.self.now in
-    let at = (goal.at.returns-then-self-from c).After-from in
-    record {
-      told = sym (not_yet _ _ _ c.index.result.now (some_left at) c.index.ensures s.coming (omega (arith, c.if-self-from.true, c.from.ensures, c.date.ensures)));
-      stock = refl;
-      room = omega (arith, s.bounded);
-      later = λ stock ds. refl;
-    }
+-- the receipt that was seen stands at the front
+front : (c : In-Some) → let q = deque_items c.args.self.now.receipts in q ≡ c.in-Some.field-0.now ∷ drop 1 q
+front c =
+    let q = c.args.self.now.receipts in
+    let one : 0 < deque_len q = c.in-Some.ensures.variant.0 (λ i. true) in
+    front_first _ _ (omega (arith, q.ok.0, one)) c.in-Some.ensures.lookup
 
-pub overflow_add-self-3 : goal.overflow_add-self-3
-overflow_add-self-3 c =
-    let s = c.args.self.now in
-    let date = (due_comes _ _ _ c.index.result.now (some_left (goal.at.overflow_add-self-3 c).After-from) c.index.ensures s.coming).date in
-    omega (arith, date, c.date.ensures, c.date.type_inv)
+pub returns-then-not-comes_now-clause-told : goal.returns-then-not-comes_now-clause-told
+returns-then-not-comes_now-clause-told c =
+    sym (not_yet _ _ _ (front (goal.at.returns-then-not-comes_now-clause-told c).In-Some) c.args.self.now.coming (omega (arith, c.if-not-comes_now.true, c.from.ensures, c.date.ensures)))
 
-pub invariant_of-self-2 : goal.invariant_of-self-2
-invariant_of-self-2 c =
-    let s = c.args.self.now in
-    let at = (goal.at.invariant_of-self-2 c).After-from in
-    let left = some_left at in record { few = s.few; within = omega (arith, s.receipts.ok.0); bounded = omega (arith, s.bounded); coming = others_coming _ _ _ c.index.result.now left c.index.ensures s.coming (omega (arith, c.if-self-from.false, c.from.ensures, c.date.ensures)) }
+pub returns-clause-told : goal.returns-clause-told
+returns-clause-told c =
+    sym (now_comes _ _ _ (front (goal.at.returns-clause-told c).In-Some) c.args.self.now.coming (omega (arith, c.if-not-comes_now.false, c.from.ensures, c.date.ensures)))
 
-pub returns : goal.returns
-returns c =
-    let s = c.args.self.now in
-    let left = some_left (goal.at.returns c).After-from in
-    let x = c.index.result.now in
-    record {
-      told = sym (now_comes _ _ _ x left c.index.ensures s.coming (omega (arith, c.if-self-from.false, c.from.ensures, c.date.ensures)));
-      stock = refl;
-      room = omega (arith, s.bounded, (due_comes _ _ _ x left c.index.ensures s.coming).amount);
-      later = net_on _ _ _ x left c.index.ensures s.coming (omega (arith, c.if-self-from.false, c.from.ensures, c.date.ensures));
-    }
+pub returns-clause-later : goal.returns-clause-later
+returns-clause-later c = λ stock ds.
+    ap (λ xs. netted (supplies xs) (c.args.self.now.period + 1) stock ds) c.pop_front.ensures.rest
+    ∙ net_on _ _ _ (front (goal.at.returns-clause-later c).In-Some) c.args.self.now.coming (omega (arith, c.if-not-comes_now.false, c.from.ensures, c.date.ensures)) stock ds
