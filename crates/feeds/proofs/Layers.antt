@@ -116,12 +116,6 @@ nets_are s rs gross =
     ∙ ap (λ t. theory.nets s rs gross (length gross) ++ netted rs (suc (length gross)) (theory.carried s rs gross (length gross)) t) (drop-length gross)
     ∙ append-nil (theory.nets s rs gross (length gross))
 
--- net demands are small where the gross demands are
-pub net_small : (rs : List theory.Receipt) (i stock : ℕ) (ds : List ℕ) → Small ds → Small (netted rs i stock ds)
-unfolding netted
-net_small rs i stock [] h = tt
-net_small rs i stock (d ∷ ds) h = (omega (arith, h.0), net_small rs (i + 1) _ ds h.1)
-
 -- what the feed below told, where its fault was set apart to rise
 pub below_fault : {D : Type 0} (told : Result (Option ℕ) FeedFault) (b : D) (fault : FeedFault) → MatchResult told (λ o. ◌≡◌ {A = Result (Option ℕ) D} (Err b) (Ok o)) (λ f. fault ≡ f) → told ≡ Err fault
 below_fault (Ok o) b fault h = let z : ◌≡◌ {A = ℕ} 0 1 = cc in absurd (omega arith)

@@ -1,9 +1,11 @@
 // Feeds hand out the demand of one period after another.
 #![tactic(auto)]
 
+mod cursor;
 pub mod examples;
 pub mod fault;
 pub mod feed;
+pub mod format;
 mod line;
 pub mod netting;
 pub mod orders;
@@ -12,7 +14,7 @@ pub mod receipt;
 mod supply;
 pub mod text;
 
-pub use fault::{FeedFault, RecordFault};
+pub use fault::{FeedFault, RecordFault, RecordFaultKind};
 pub use feed::Feed;
 pub use netting::Netting;
 pub use netting::fault::NettingFault;
