@@ -5,6 +5,7 @@ ghost use Rattle.report.specs.declared.refusal.Refusal.TheVariants.{Costs as OfC
 
 use costs::CostFault;
 use feeds::FeedFault;
+use lots::Refusal as Numbered;
 
 #[derive(Clone, Copy)]
 pub enum Refusal {
