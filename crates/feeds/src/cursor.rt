@@ -15,19 +15,6 @@ pub struct Cursor<'a> {
 }
 
 impl<'a> Cursor<'a> {
-    // Before the first byte.
-    pub(crate) fn new(text: &'a [u8]) -> Cursor<'a>
-        ensures text { result.text.now ≡ text.now }
-        ensures place { result.place ≡ 0 }
-        ensures handed { result.handed ≡ 0 }
-    {
-        Cursor {
-            text,
-            place: 0,
-            handed: 0,
-        }
-    }
-
     // The bytes from here on.
     pub(crate) fn rest(&self) -> &'a [u8]
         ensures { result.now ≡ drop self.now.place self.now.text.now }

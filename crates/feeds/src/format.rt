@@ -41,7 +41,11 @@ impl<'a, F: Format> ByteFeed<'a, F> {
         ensures place { result.at.place ≡ 0 }
     {
         ByteFeed {
-            at: Cursor::new(text),
+            at: Cursor {
+                text,
+                place: 0,
+                handed: 0,
+            },
             format: PhantomData,
         }
     }

@@ -1,7 +1,7 @@
 use Rattle.std.proofs.Common.{sym, ap, ◌∙◌, subst}
 use Rattle.std.proofs.lemmas.Result.{IfOk-weaker}
 use Rattle.feeds.specs.Text.{forecast}
-use Rattle.feeds.proofs.Texts.{small}
+use Rattle.feeds.specs.SmallDemands.{text_small as small}
 use Rattle.report.specs.Printing.{Payable, printed_plan, printed}
 use Rattle.report.proofs.Payable.{payable}
 use Rattle.report.proofs.print.report.Goals as goal

@@ -4,7 +4,7 @@ use Rattle.lots.specs.Lots.{terms}
 use Rattle.lots.specs.declared.lot.Lot.{Lot}
 use Rattle.lotfile.specs.LotWords.{file_bytes}
 use Rattle.feeds.specs.Text.{forecast}
-use Rattle.feeds.proofs.Texts.{small}
+use Rattle.feeds.specs.SmallDemands.{text_small as small}
 use Rattle.planner.specs.declared.refusals.ReadRefusal.{ReadRefusal}
 use Rattle.rolling_report.specs.LotFiles.{file_unless, file_of_plan, file_due}
 use Rattle.rolling_report.specs.Planning.{plan_told}

@@ -1,7 +1,7 @@
 use Rattle.std.proofs.Common.{sym, ap, ◌∙◌, subst}
 use Rattle.std.proofs.lemmas.Result.{IfOk-weaker}
 use Rattle.feeds.specs.Orders.{orders}
-use Rattle.feeds.proofs.Orderly.{small}
+use Rattle.feeds.specs.SmallDemands.{orders_small as small}
 use Rattle.rolling_report.specs.Printing.{Payable, printed_plan, printed_orders}
 use Rattle.rolling_report.proofs.Fitting.{payable, input_fits}
 use Rattle.rolling_report.proofs.print.report_orders.Goals as goal

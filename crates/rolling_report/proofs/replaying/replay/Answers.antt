@@ -4,7 +4,7 @@ use Rattle.std.proofs.lemmas.Result.{IfOk-weaker}
 use Rattle.costs.specs.Constant.{constant_price}
 use Rattle.feeds.specs.Forecasts.{Forecast}
 use Rattle.feeds.specs.Text.{forecast}
-use Rattle.feeds.proofs.Texts.{small}
+use Rattle.feeds.specs.SmallDemands.{text_small as small}
 use Rattle.planner.specs.Answers.{call_of}
 use Rattle.rolling_report.specs.Replaying.{replay_due, replay_at, replayed}
 use Rattle.rolling_report.proofs.Fitting.{LineLawful, costs_lawful}
