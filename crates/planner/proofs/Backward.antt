@@ -2,7 +2,7 @@
 use Rattle.std.proofs.Common.{◌≡◌, ℕ, zero, suc, ◌+◌, ◌-◌, ◌<◌, ◌≤◌, List, [], ◌∷◌, ◌++◌, map, length, Some, None, Option, sym, refl, ap, ◌∙◌, subst, ap₂, inl, inr, append_assoc, append-nil, arith}
 use mathlib.Core.Logic.{∥∥₁_elim}
 use native.Mathlib.Bridge.{le_prop}
-use Rattle.std.specs.Option.{option_map}
+use Rattle.std.specs.Option.{option_map, option_or}
 use Rattle.std.proofs.lemmas.Bool.{cases_lt}
 use Rattle.theory.specs.Recursion.{Case, Lawful, over, last, lot_cost, Lot, lot, plan}
 use Rattle.theory.specs.Regeneration.{next, after, end_of}
@@ -12,7 +12,7 @@ use Rattle.theory.proofs.Plans.{plan_none, plan_ind, plan_ordered, lot_filled}
 use Rattle.theory.proofs.Proving.{next_of_plan, next_own, rest_by_lot, after_skip}
 use Rattle.lots.specs.Lots.{Terms}
 use Rattle.planner.specs.declared.rows.row.Span.{Span}
-use Rattle.planner.specs.Lots.{span_of, Spans}
+use Rattle.planner.specs.Lots.{span_of, Spans, SpansIf}
 use Rattle.planner.proofs.Soundness.{over_bound}
 use Rattle.planner.specs.Describing.{Window, row_after, reading, RowOf, Describes, Sound}
 
@@ -44,30 +44,30 @@ module _ (c : Case) (after n l : ℕ) (is : l ≡ last c n) where
       go zero e = sym (ap (λ (ys : List Lot). option_map span_of (next after ys)) (plan_none c n (sym is ∙ e)))
       go (suc j) e = sym (ap (option_map span_of) ((next_of_plan c after n j (sym is ∙ e)).2 (next_none c after j (omega arith)) (omega arith)))
 
-  pub back_own : after < l → None ≡ option_map span_of (next after (plan c (l - 1))) → Some (record { from = l; through = n }) ≡ option_map span_of (next after (plan c n))
+  pub back_step : after < l → (r : Option Span) → r ≡ option_map span_of (next after (plan c (l - 1))) →
+      option_or r (Some (record { from = l; through = n })) ≡ option_map span_of (next after (plan c n))
   unfolding lot
-  back_own h none = go l refl
+  back_step h r at = go l refl
     where
-      go : (k : ℕ) → l ≡ k → Some (record { from = l; through = n }) ≡ option_map span_of (next after (plan c n))
-      go zero e = absurd (omega arith)
-      go (suc j) e =
-          let before : l - 1 ≡ j = omega arith in
-          let nothing : next after (plan c j) ≡ None = unmapped _ (none ∙ ap (λ k. option_map span_of (next after (plan c k))) before) in
+      own : Option Span
+      own = Some (record { from = l; through = n })
+
+      step : (j : ℕ) → l ≡ suc j → (x : Option Lot) → next after (plan c j) ≡ x → option_or (option_map span_of x) own ≡ option_map span_of (next after (plan c n))
+      step j e None q =
           ap (λ k. Some (record { from = k; through = n })) e
-          ∙ sym (ap (option_map span_of) ((next_of_plan c after n j (sym is ∙ e)).1 nothing (omega arith)))
+          ∙ sym (ap (option_map span_of) ((next_of_plan c after n j (sym is ∙ e)).1 q (omega arith)))
+      step j e (Some y) q = sym (ap (option_map span_of) ((next_of_plan c after n j (sym is ∙ e)).0 y q))
 
-  pub back_earlier : after < l → (r : Option Span) → (r ≡ None → ⊥) → r ≡ option_map span_of (next after (plan c (l - 1))) → r ≡ option_map span_of (next after (plan c n))
-  back_earlier h r some at = go l refl
-    where
-      before : (j : ℕ) → l ≡ suc j → (x : Option Lot) → next after (plan c j) ≡ x → r ≡ option_map span_of x → r ≡ option_map span_of (next after (plan c n))
-      before j e None q p = absurd (some p)
-      before j e (Some y) q p = p ∙ sym (ap (option_map span_of) ((next_of_plan c after n j (sym is ∙ e)).0 y q))
-
-      go : (k : ℕ) → l ≡ k → r ≡ option_map span_of (next after (plan c n))
+      go : (k : ℕ) → l ≡ k → option_or r own ≡ option_map span_of (next after (plan c n))
       go zero e = absurd (omega arith)
       go (suc j) e =
           let back : l - 1 ≡ j = omega arith in
-          before j e (next after (plan c j)) refl (at ∙ ap (λ k. option_map span_of (next after (plan c k))) back)
+          ap (λ o. option_or o own) (at ∙ ap (λ k. option_map span_of (next after (plan c k))) back) ∙ step j e (next after (plan c j)) refl
+
+-- either of two spans in the window after a period lies there
+pub spans_or : (w : Window) (a : ℕ) (r : Option Span) (s : Span) → SpansIf w a r → Spans w a s → SpansIf w a (option_or r (Some s))
+spans_or w a None s _ own = own
+spans_or w a (Some earlier) s found _ = found
 
 -- the rows at the two ends of a span differ by what its lot serves and costs
 module _ (c : Case) (w : Window) (h : Describes c w) (s : Span) (sp : Spans w w.base s) where

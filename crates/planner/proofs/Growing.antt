@@ -1,11 +1,10 @@
 -- The lists that `push` leaves are the window grown by one period.
-use Rattle.std.proofs.Common.{◌≡◌, ℕ, suc, ◌+◌, ◌*◌, ◌<◌, ◌≤◌, List, [], ◌∷◌, ◌++◌, length, get_or, take, sym, refl, ap, ◌∙◌, ap₂, arith, take_all}
+use Rattle.std.proofs.Common.{◌≡◌, ℕ, suc, ◌+◌, ◌*◌, ◌<◌, ◌≤◌, List, [], ◌∷◌, ◌++◌, length, get_or, take, refl, ap, ◌∙◌, ap₂, arith, take_all}
 use lib.Seq.{take-append-le}
-use Rattle.std.proofs.lemmas.List.{get_or_append_left, get_or_push, length_push}
+use Rattle.std.proofs.lemmas.List.{get_or_append_left, get_or_push, length_push, map-append}
 use Rattle.planner.specs.declared.rows.row.Row.{Row}
-use Rattle.planner.specs.declared.rows.Rows.{Rows}
-use Rattle.planner.specs.Windows.{window}
-use Rattle.planner.specs.Describing.{Window, window_of, row_after, reading, Grown, live_from, raised, own, Cheapest, Chosen}
+use Rattle.planner.specs.declared.rows.row.Period.{Period}
+use Rattle.planner.specs.Describing.{Window, window_of, rows_of, options_of, row_after, reading, Grown, live_from, raised, own, Cheapest, Chosen}
 
 module _ (w : Window) (K : ℕ → ℕ) (V : ℕ → ℕ → ℕ) (paired : length w.options ≡ length w.rows) (rows : List Row) (options : List ℕ) where
   pub grown_idle : (d x : ℕ) → d ≡ 0 → x ≡ (row_after w (length w.rows)).least + K (suc (reading w)) →
@@ -46,41 +45,39 @@ module _ (w : Window) (K : ℕ → ℕ) (V : ℕ → ℕ → ℕ) (paired : leng
     busy = λ _. (place, chosen, last);
   }
 
--- the lists in the rows' two vectors are of one length
-pub window_paired : (r : Rows) → length (window r).options ≡ length (window r).rows
-window_paired r = sym r.options.ok.0 ∙ r.paired ∙ r.rows.ok.0
-
--- what the walk through the options of a window, as a list of its own, says of the window
-module _ (w : Window) (K : ℕ → ℕ) (V : ℕ → ℕ → ℕ) (d first self : ℕ) (walked : List ℕ) (same : walked ≡ w.options) (paired : length w.options ≡ length w.rows)
-    (begins : first ≡ live_from w) where
-  long : length walked ≡ length w.rows
-  long = ap length same ∙ paired
-
-  raised_same : (k : ℕ) → get_or walked k 0 + d * V (suc (w.base + k)) (suc (w.base + length walked)) ≡ raised V d w k
+-- what the walk through the options of a window's periods says of the window
+module _ (w : Window) (K : ℕ → ℕ) (V : ℕ → ℕ → ℕ) (d first self : ℕ) (walked : List Period) (same : options_of walked ≡ w.options)
+    (long : length walked ≡ length w.rows) (begins : first ≡ live_from w) where
+  raised_same : (k : ℕ) → get_or (options_of walked) k 0 + d * V (suc (w.base + k)) (suc (w.base + length walked)) ≡ raised V d w k
   raised_same k = ap₂ ◌+◌ (ap (λ (os : List ℕ). get_or os k 0) same) (ap (λ n. d * V (suc (w.base + k)) (suc (w.base + n))) long)
 
   pub raised_from : (mid : List ℕ) →
-      ((k : ℕ) → first ≤ k → k < length walked → get_or mid k 0 ≡ get_or walked k 0 + d * V (suc (w.base + k)) (suc (w.base + length walked))) →
+      ((k : ℕ) → first ≤ k → k < length walked → get_or mid k 0 ≡ get_or (options_of walked) k 0 + d * V (suc (w.base + k)) (suc (w.base + length walked))) →
       (k : ℕ) → live_from w ≤ k → k < length w.rows → get_or mid k 0 ≡ raised V d w k
-  raised_from mid up k l m = up k (omega arith) (omega (arith, long)) ∙ raised_same k
+  raised_from mid up k l m = up k (omega arith) (omega arith) ∙ raised_same k
 
   pub chosen_from : (cost place : ℕ) → self ≡ own K V d w →
-      Cheapest (λ k. get_or walked k 0 + d * V (suc (w.base + k)) (suc (w.base + length walked))) first (length walked) self cost place →
+      Cheapest (λ k. get_or (options_of walked) k 0 + d * V (suc (w.base + k)) (suc (w.base + length walked))) first (length walked) self cost place →
       Chosen K V d w cost place
-  chosen_from cost place is c =
-      let e = long in
-      record {
-        from_first = omega (arith, c.from_first);
-        within = omega (arith, c.within);
-        is_own = λ at. c.is_own (omega arith) ∙ is;
-        is_option = λ l. c.is_option (omega arith) ∙ raised_same place;
-        cheapest = λ k l m. omega (arith, c.cheapest k (omega arith) (omega arith), raised_same k);
-        no_dearer = omega (arith, c.no_dearer);
-        largest = λ k l m. omega (arith, c.largest k l (omega arith), raised_same k);
-        largest_own = λ l. omega (arith, c.largest_own (omega arith));
-      }
+  chosen_from cost place is c = record {
+    from_first = omega (arith, c.from_first);
+    within = omega (arith, c.within);
+    is_own = λ at. c.is_own (omega arith) ∙ is;
+    is_option = λ l. c.is_option (omega arith) ∙ raised_same place;
+    cheapest = λ k l m. omega (arith, c.cheapest k (omega arith) (omega arith), raised_same k);
+    no_dearer = omega (arith, c.no_dearer);
+    largest = λ k l m. omega (arith, c.largest k l (omega arith), raised_same k);
+    largest_own = λ l. omega (arith, c.largest_own (omega arith));
+  }
 
 -- a push behind a list that filled its vector
-pub pushed_behind : (mid rest : List ℕ) (n x y : ℕ) → length mid ≡ n → x ≡ y → take n (mid ++ rest) ++ (x ∷ []) ≡ mid ++ (y ∷ [])
-pushed_behind mid rest n x y long same =
-    ap₂ (λ (l : List ℕ) z. l ++ (z ∷ [])) (take-append-le n mid rest (omega arith) ∙ take_all n mid (omega arith)) same
+pub pushed_behind : (mid rest : List Period) (n : ℕ) (p : Period) → length mid ≡ n → take n (mid ++ rest) ++ (p ∷ []) ≡ mid ++ (p ∷ [])
+pushed_behind mid rest n p long =
+    ap (λ (l : List Period). l ++ (p ∷ [])) (take-append-le n mid rest (omega arith) ∙ take_all n mid (omega arith))
+
+-- a period is pushed as its row and its option
+pub rows_pushed : (old new : List Period) (p : Period) → new ≡ old ++ (p ∷ []) → rows_of new ≡ rows_of old ++ (p.row ∷ [])
+rows_pushed old new p e = ap rows_of e ∙ map-append (λ q. q.row) old (p ∷ [])
+
+pub options_pushed : (old new : List Period) (p : Period) → new ≡ old ++ (p ∷ []) → options_of new ≡ options_of old ++ (p.option ∷ [])
+options_pushed old new p e = ap options_of e ∙ map-append (λ q. q.option) old (p ∷ [])

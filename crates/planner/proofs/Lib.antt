@@ -1,3 +1,4 @@
+pub mod Windows
 pub mod Choosing
 pub mod Steps
 pub mod Growth

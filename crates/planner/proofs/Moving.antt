@@ -1,13 +1,14 @@
 -- A window goes on describing a case from a later base on.
-use Rattle.std.proofs.Common.{◌≡◌, ℕ, zero, suc, ◌+◌, ◌-◌, ◌≤◌, List, ◌++◌, length, take, drop, sym, ap, ◌∙◌, subst, add-zero, add-suc, arith, length-drop, get_or-drop, take_all}
-use lib.Seq.{take-append-le}
-use Rattle.std.proofs.lemmas.List.{get_or_default}
+use Rattle.std.proofs.Common.{◌≡◌, ℕ, zero, suc, ◌+◌, ◌-◌, ◌≤◌, List, length, drop, sym, ap, ◌∙◌, subst, add-zero, add-suc, arith, length-drop, get_or-drop}
+use Rattle.std.proofs.lemmas.List.{get_or_default, drop-map}
 use Rattle.theory.specs.Recursion.{Case, least, last, lot_cost}
 use Rattle.theory.proofs.Laws.{last_le}
+use Rattle.planner.specs.declared.rows.row.Period.{Period}
+use Rattle.planner.specs.declared.rows.row.Row.{Row}
 use Rattle.planner.specs.declared.rows.Rows.{Rows}
 use Rattle.planner.specs.Windows.{window}
 use Rattle.planner.proofs.Soundness.{last_fits}
-use Rattle.planner.specs.Describing.{Window, row_after, reading, RowOf, Describes, Sound, moved_to}
+use Rattle.planner.specs.Describing.{Window, row_after, reading, RowOf, Describes, Sound, moved_to, rows_of, options_of, window_of, window_from}
 
 row_moved : (w : Window) (through k : ℕ) → w.base ≤ through → k + (through - w.base) ≤ length w.rows →
     row_after (moved_to through w) k ≡ row_after w ((through - w.base) + k)
@@ -45,11 +46,15 @@ moved_sound w through onward inside s = record {
   describes = moved_describes s.case w through s.describes onward (omega (arith, (s.describes.told (length w.rows) (omega arith)).last));
 }
 
--- what is left once the front is turned to the back and cut off
-pub front_freed : {A : Type 0} (xs : List A) (n m : ℕ) → n ≤ length xs → m ≡ length xs - n → take m (drop n xs ++ take n xs) ≡ drop n xs
-front_freed xs n m l e =
-    let long = length-drop n xs in
-    take-append-le m (drop n xs) (take n xs) (omega arith) ∙ take_all m (drop n xs) (omega arith)
+-- freeing the periods up to a later base moves the window there
+pub front_freed : (base through : ℕ) (before at : Row) (periods left : List Period) →
+    (let w : Window = window_from base before periods in
+    at ≡ row_after w (through - base) → left ≡ drop (through - base) periods → window_from through at left ≡ moved_to through w)
+front_freed base through before at periods left is rest =
+    let n : ℕ = through - base in
+    let rows = ap rows_of rest ∙ sym (drop-map (λ p. p.row) n periods) in
+    let options = ap options_of rest ∙ sym (drop-map (λ p. p.option) n periods) in
+    λ i. window_of through (is i) (rows i) (options i)
 
 -- a base before the last setup was read
 pub base_read : (r : Rows) (through : ℕ) → through ≤ (row_after (window r) (length (window r).rows)).last - 1 → through ≤ reading (window r)

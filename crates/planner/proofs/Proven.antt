@@ -1,5 +1,8 @@
 -- The test of the regeneration set, on the spans that the rows tell.
-use Rattle.std.proofs.Common.{◌≡◌, ℕ, suc, ◌<◌, ◌≤◌, Some, None, Option, sym, refl, ap, ◌∙◌, inl, inr, arith}
+use Rattle.std.proofs.Common.{◌≡◌, ℕ, suc, ◌+◌, ◌-◌, ◌<◌, ◌≤◌, Bool, true, false, List, length, Some, None, Option, sym, refl, ap, ◌∙◌, subst, inl, inr, arith}
+use Rattle.std.specs.Bool.{MatchBool, then_some}
+use Rattle.std.specs.List.{range_with_len, AllWithin, HoldsAt}
+use Rattle.std.proofs.lemmas.List.FromFn.{length-range_with_len, get_or-range_with_len}
 use Rattle.std.specs.Option.{option_map}
 use Rattle.std.proofs.lemmas.Bool.{cases_lt}
 use Rattle.theory.specs.Recursion.{Case, last, Lot, lot, plan}
@@ -23,11 +26,11 @@ pub unproved_idle : (c : Case) (b t : ℕ) → last c t ≡ 0 → None ≡ optio
 unproved_idle c b t idle = none_from c b t (λ y p. omega (arith, p.some))
 
 -- where a horizon of the set has another span next than the whole
-pub unproved_apart : (c : Case) (b t h : ℕ) (o q : Option Span) → last c t ≤ suc h → h ≤ t → o ≡ option_map span_of (next b (plan c h)) → q ≡ option_map span_of (next b (plan c t)) →
-    (o ≡ q → ⊥) → None ≡ option_map span_of (proves c b t)
-unproved_apart c b t h o q from upto is whole apart =
+unproved_apart : (c : Case) (b t h : ℕ) (s : Span) → last c t ≤ suc h → h ≤ t → Some s ≡ option_map span_of (next b (plan c t)) →
+    (option_map span_of (next b (plan c h)) ≡ Some s → ⊥) → None ≡ option_map span_of (proves c b t)
+unproved_apart c b t h s from upto whole apart =
     none_from c b t (λ y p.
-    apart (is ∙ ap (option_map span_of) (p.all h from upto) ∙ sym (ap (option_map span_of) (p.all t (omega (arith, last_le c t)) (omega arith))) ∙ sym whole))
+    apart (ap (option_map span_of) (p.all h from upto) ∙ sym (ap (option_map span_of) (p.all t (omega (arith, last_le c t)) (omega arith))) ∙ sym whole))
 
 -- where the whole has none
 pub unproved_none : (c : Case) (b t : ℕ) → None ≡ option_map span_of (next b (plan c t)) → None ≡ option_map span_of (proves c b t)
@@ -38,7 +41,7 @@ unproved_none c b t none =
     omega arith)
 
 -- where every horizon of the set has the same span
-pub proved_by : (c : Case) (b t : ℕ) (s : Span) → 1 ≤ last c t → Some s ≡ option_map span_of (next b (plan c t)) →
+proved_by : (c : Case) (b t : ℕ) (s : Span) → 1 ≤ last c t → Some s ≡ option_map span_of (next b (plan c t)) →
     ((h : ℕ) → last c t ≤ suc h → h < t → Some s ≡ option_map span_of (next b (plan c h))) → Some s ≡ option_map span_of (proves c b t)
 proved_by c b t s some whole all =
     let here = next_lot c b t s whole in
@@ -50,3 +53,25 @@ proved_by c b t s some whole all =
     ] in
     let found : proves c b t ≡ Some y = proves_complete c b t y (record { some = some; all = each }) in
     whole ∙ ap (option_map span_of) (here.1 ∙ ap Some here.2) ∙ sym (ap (option_map span_of) found)
+
+-- where the spans of all horizons of the set but the whole were compared with the whole's
+pub proved_if : (c : Case) (b t l : ℕ) (s : Span) (same : Bool) → l ≡ last c t → 1 ≤ l → Some s ≡ option_map span_of (next b (plan c t)) →
+    (let before : List ℕ = range_with_len (l - 1) (t - (l - 1)) in
+    MatchBool same (AllWithin (λ h. option_map span_of (next b (plan c h)) ≡ Some s) before 0 (length before))
+    ((k : ℕ) × (k < length before) × HoldsAt (λ h. option_map span_of (next b (plan c h)) ≡ Some s → ⊥) before k)) →
+    then_some same s ≡ option_map span_of (proves c b t)
+proved_if c b t l s true is some whole all =
+    let n : ℕ = t - (l - 1) in
+    let at : (k : ℕ) → k < n → Some s ≡ option_map span_of (next b (plan c (l - 1 + k))) =
+    λ k m. sym (subst (λ h. option_map span_of (next b (plan c h)) ≡ Some s) (get_or-range_with_len (l - 1) n k 0 m)
+    (all k 0 (omega arith) (omega (arith, length-range_with_len (l - 1) n)))) in
+    proved_by c b t s (omega arith) whole (λ h from before.
+    let there : l - 1 + (h - (l - 1)) ≡ h = omega arith in
+    subst (λ i. Some s ≡ option_map span_of (next b (plan c i))) there (at (h - (l - 1)) (omega arith)))
+proved_if c b t l s false is some whole apart =
+    let n : ℕ = t - (l - 1) in
+    let k : ℕ = apart.0 in
+    let within : k < n = omega (arith, apart.1, length-range_with_len (l - 1) n) in
+    let there = get_or-range_with_len (l - 1) n k 0 within in
+    unproved_apart c b t (l - 1 + k) s (omega arith) (omega arith) whole
+    (subst (λ h. option_map span_of (next b (plan c h)) ≡ Some s → ⊥) there (apart.2 0))

@@ -1,7 +1,8 @@
 -- What the planner's rows say of a case: for each horizon its least cost and its last setup.
-use Rattle.std.specs.Prelude.{◌≡◌, ℕ, zero, suc, ◌+◌, ◌-◌, ◌*◌, ◌<◌, ◌≤◌, List, [], ◌∷◌, ◌++◌, length, get_or, drop, slice_index, slice_index_or}
+use Rattle.std.specs.Prelude.{◌≡◌, ℕ, zero, suc, ◌+◌, ◌-◌, ◌*◌, ◌<◌, ◌≤◌, List, [], ◌∷◌, ◌++◌, map, length, get_or, drop, slice_index, slice_index_or}
 use Rattle.theory.specs.Recursion.{Case, Lawful, over, least, last, lot_cost}
 use Rattle.planner.specs.declared.rows.row.Row.{Row}
+use Rattle.planner.specs.declared.rows.row.Period.{Period}
 
 -- the rows of a window: the row of its base, a row for each period after the base, and what each of these periods would cost as the last setup
 pub record Window : Type 0 where
@@ -12,6 +13,18 @@ pub record Window : Type 0 where
 
 abbrev pub window_of : ℕ → Row → List Row → List ℕ → Window
 window_of base before rows options = record { base = base; before = before; rows = rows; options = options }
+
+-- what is known of each period as a horizon
+abbrev pub rows_of : List Period → List Row
+rows_of = map (λ p. p.row)
+
+-- what each period costs as the last setup
+abbrev pub options_of : List Period → List ℕ
+options_of = map (λ p. p.option)
+
+-- the window of a base and the periods after it
+abbrev pub window_from : ℕ → Row → List Period → Window
+window_from base before periods = window_of base before (rows_of periods) (options_of periods)
 
 -- the row k periods after the base
 abbrev pub row_after : Window → ℕ → Row

@@ -1,10 +1,10 @@
 -- The window that the planner's rows hold.
 use Rattle.std.specs.Prelude.{[], vec_items}
 use Rattle.planner.specs.declared.rows.Rows.{Rows}
-use Rattle.planner.specs.Describing.{Window, window_of}
+use Rattle.planner.specs.Describing.{Window, window_of, window_from}
 
 abbrev pub window : Rows → Window
-window r = window_of r.base r.before (vec_items r.rows) (vec_items r.options)
+window r = window_from r.base r.before (vec_items r.periods)
 
 -- the window before anything is read
 abbrev pub empty : Window

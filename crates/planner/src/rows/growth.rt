@@ -1,10 +1,10 @@
 // How the rows grow by one period.
-ghost use Rattle.std.specs.Prelude.{◌≡◌, ◌+◌, ◌-◌, ◌<◌, ◌≤◌, length, IfOk, vec_len};
+ghost use Rattle.std.specs.Prelude.{◌≡◌, ◌-◌, ◌<◌, ◌≤◌, length, IfOk};
 ghost use Rattle.planner.specs.Describing.{row_after, reading, Grown};
 ghost use Rattle.planner.specs.Windows.{window, empty};
 
-use crate::rows::options::raise;
-use crate::rows::row::Row;
+use crate::rows::options::{raise, served};
+use crate::rows::row::{Period, Row};
 use crate::rows::{Rows, WINDOW};
 use costs::CostModel;
 use std::alloc::{AllocError, Global};
@@ -14,18 +14,14 @@ impl Rows {
     pub fn new(heap: Global) -> Result<Rows, AllocError>
         ensures { IfOk result (λ w. window w ≡ empty) }
     {
-        let rows = Vec::with_capacity(heap, WINDOW)?;
-        let options = Vec::with_capacity(heap, WINDOW)?;
-        let before = Row {
-            demanded: 0,
-            least: 0,
-            last: 0,
-        };
         Ok(Rows {
             base: 0,
-            before,
-            rows,
-            options,
+            before: Row {
+                demanded: 0,
+                least: 0,
+                last: 0,
+            },
+            periods: Vec::with_capacity(heap, WINDOW)?,
         })
     }
 
@@ -40,14 +36,14 @@ impl Rows {
     pub fn len(&self) -> usize
         ensures { result ≡ length (window self.now).rows }
     {
-        self.rows.len()
+        self.periods.len()
     }
 
     // How many periods were read.
     pub fn read(&self) -> u32
         ensures { result ≡ reading (window self.now) }
     {
-        self.base + self.rows.len() as u32
+        self.base + self.periods.len() as u32
     }
 
     // The row of a horizon of the window.
@@ -56,17 +52,16 @@ impl Rows {
         requires through { horizon ≤ reading (window self.now) }
         ensures { result ≡ row_after (window self.now) (horizon - self.now.base) }
     {
-        if horizon == self.base {
-            self.before
-        } else {
-            self.rows[(horizon - self.base - 1) as usize]
+        match (horizon - self.base) as usize {
+            0 => self.before,
+            ahead => self.periods[ahead - 1].row,
         }
     }
 
     // Reads one more period. Only the options from the last setup on can win, since last setups never fall.
     pub fn push<M: CostModel>(&mut self, demand: u32, model: &M)
         requires small { demand ≤ 1000000 }
-        requires narrow { vec_len self.old.rows < 256 }
+        requires narrow { length (window self.old).rows < 256 }
         requires few { reading (window self.old) < 10000 }
         ensures { Grown (M.CostModel.K model.now) (M.CostModel.V model.now) demand (window self.old) (window self.new) }
     {
@@ -75,18 +70,22 @@ impl Rows {
         let newest = self.at(read);
         let setup = newest.least + model.setup(read + 1).unwrap();
         if demand == 0 {
-            self.options.push_reserved(setup);
-            self.rows.push_reserved(newest);
+            self.periods.push_reserved(Period {
+                row: newest,
+                option: setup,
+            });
             return;
         }
-        let own = setup + u64::from(demand) * model.price(read + 1, read + 1).unwrap();
+        let own = setup + served(model, demand, read + 1, read + 1);
         let first = newest.last.saturating_sub(1) - base;
-        let choice = raise(&mut self.options, first as usize, base, demand, own, model);
-        self.options.push_reserved(own);
-        self.rows.push_reserved(Row {
-            demanded: newest.demanded + u64::from(demand),
-            least: choice.cost,
-            last: base + choice.place as u32 + 1,
+        let choice = raise(&mut self.periods, first as usize, base, demand, own, model);
+        self.periods.push_reserved(Period {
+            row: Row {
+                demanded: newest.demanded + u64::from(demand),
+                least: choice.cost,
+                last: base + choice.place as u32 + 1,
+            },
+            option: own,
         });
     }
 }

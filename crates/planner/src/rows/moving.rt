@@ -13,13 +13,8 @@ impl Rows {
         ensures { window self.new ≡ moved_to through (window self.old) }
     {
         let freed = (through - self.base) as usize;
-        let kept = self.rows.len() - freed;
-        let before = self.at(through);
+        self.before = self.at(through);
         self.base = through;
-        self.before = before;
-        self.rows.rotate_left(freed);
-        self.rows.truncate(kept);
-        self.options.rotate_left(freed);
-        self.options.truncate(kept);
+        self.periods.drain(..freed);
     }
 }

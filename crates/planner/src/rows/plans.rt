@@ -29,13 +29,10 @@ impl Rows {
         if last <= after {
             return None;
         }
-        match self.next_span(last - 1, after) {
-            None => Some(Span {
-                from: last,
-                through: horizon,
-            }),
-            earlier => earlier,
-        }
+        self.next_span(last - 1, after).or(Some(Span {
+            from: last,
+            through: horizon,
+        }))
     }
 
     // The lot of a span, as it is handed out now: what it serves and what it costs are the differences of two rows.

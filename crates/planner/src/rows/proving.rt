@@ -23,14 +23,8 @@ impl Rows {
             return None;
         }
         let span = self.next_span(read, base)?;
-        for horizon in last - 1..read {
-            let Some(other) = self.next_span(horizon, base) else {
-                return None;
-            };
-            if other.from != span.from || other.through != span.through {
-                return None;
-            }
-        }
-        Some(span)
+        (last - 1..read)
+            .all(|horizon| self.next_span(horizon, base) == Some(span))
+            .then_some(span)
     }
 }

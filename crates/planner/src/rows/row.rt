@@ -1,3 +1,5 @@
+// What the planner keeps of the periods it has read.
+
 // What is known of one horizon.
 #[derive(Clone, Copy)]
 pub struct Row {
@@ -7,6 +9,15 @@ pub struct Row {
     pub least: u64,
     // The last setup of the plan with that cost, 0 where nothing is made.
     pub last: u32,
+}
+
+// A period after the base.
+#[derive(Clone, Copy)]
+pub struct Period {
+    // What is known of it as a horizon.
+    pub row: Row,
+    // What the periods read cost with their last setup in it; kept up to date only as long as it can still win.
+    pub option: u64,
 }
 
 // The periods that one lot serves; it is made in the first of them.

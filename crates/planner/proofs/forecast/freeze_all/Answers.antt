@@ -2,6 +2,7 @@ use Rattle.std.proofs.Common.{suc, is_ok, refl, ap, ◌∙◌, arith}
 use Rattle.std.proofs.ResultArms.{chosen}
 use Rattle.planner.specs.Describing.{reading}
 use Rattle.planner.specs.Windows.{window}
+use Rattle.planner.proofs.Windows.{window_long}
 use Rattle.planner.proofs.Following.{follows_costs, follows_same, take_refused}
 use Rattle.planner.proofs.Eagerly.{eager_start, eager_take, eager_none, eager_read, eager_stop}
 use Rattle.planner.proofs.forecast.freeze_all.Goals as goal
@@ -38,7 +39,7 @@ loop-lot-preserved g c =
           (follows_same _ _ _ _ _ _ _ _ _ _ _ _ _ _ _ _ (ap g.M.CostModel.K model) (ap g.M.CostModel.V model) (ap window kept.rows)
           (ap g.F.Feed.demands kept.feed) (ap g.F.Feed.ending kept.feed) refl read.follows)
           (read.onward.0 ∙ ap (λ r. r.base) kept.rows) (read.onward.1 ∙ ap (λ r. suc (reading (window r))) kept.rows)
-          (omega (arith, c.read.new.self.rows.few, c.read.new.self.rows.rows.ok.0)),
+          (omega (arith, c.read.new.self.rows.few, window_long c.read.new.self.rows)),
     )
 
 pub returns-in-Err-read : goal.returns-in-Err-read

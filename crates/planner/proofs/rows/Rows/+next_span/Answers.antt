@@ -1,11 +1,11 @@
-use Rattle.std.proofs.Common.{◌≡◌, ℕ, ◌-◌, sym, ap, ◌∙◌, arith}
+use Rattle.std.proofs.Common.{◌≡◌, ℕ, ◌-◌, sym, ap, ◌∙◌, subst, arith}
 use Rattle.std.specs.Option.{option_map}
 use Rattle.theory.specs.Recursion.{Case, last}
-use Rattle.planner.specs.Lots.{span_of}
+use Rattle.planner.specs.Lots.{span_of, SpansIf}
 use Rattle.planner.specs.Describing.{Describes}
 use Rattle.planner.specs.Windows.{window}
 use Rattle.planner.proofs.Soundness.{last_fits}
-use Rattle.planner.proofs.Backward.{next_none, last_is, back_none, back_own, back_earlier}
+use Rattle.planner.proofs.Backward.{next_none, last_is, back_none, back_step, spans_or}
 use Rattle.planner.proofs.rows.Rows.+next_span.Goals as goal
 use Rattle.planner.proofs.rows.Rows.+next_span.Goals.{After-at-last}
 
@@ -32,18 +32,12 @@ next_span-requires t c =
     let read = ap (λ r. r.last) c.at-last.ensures in
     (omega (arith, c.decreases), (c.requires.from, omega arith))
 
-pub returns-in-None : goal.returns-in-None
-returns-in-None t c = record {
-  means = λ e h. back_own e _ _ _ (told t (goal.at.returns-in-None t c).After-at-last e h) c.if-last-after.false (c.in-None.ensures.means e h);
-  spans = record {
+pub returns : goal.returns
+returns t c = record {
+  means = λ e h. c.or.ensures ∙ back_step e _ _ _ (told t (goal.at.returns t c).After-at-last e h) c.if-last-after.false _ (c.next_span.ensures.means e h);
+  spans = subst (SpansIf (window c.args.self.now) c.args.after) (sym c.or.ensures) (spans_or _ _ _ _ c.next_span.ensures.spans (record {
     later = c.if-last-after.false;
     read = c.requires.through;
     ends = sym (ap (λ r. r.last) c.at-last.ensures);
-  };
-}
-
-pub returns-in_default : goal.returns-in_default
-returns-in_default t c = record {
-  means = λ e h. back_earlier e _ _ _ (told t (goal.at.returns-in_default t c).After-at-last e h) c.if-last-after.false _ c.in_default.not-None (c.next_span.ensures.means e h);
-  spans = c.next_span.ensures.spans;
+  }));
 }

@@ -2,6 +2,7 @@ use Rattle.std.proofs.Common.{◌≡◌, ◌+◌, ◌-◌, ◌*◌, ◌<◌, ◌
 use Rattle.theory.specs.Recursion.{over, lot_cost, lot}
 use Rattle.planner.specs.Describing.{Window}
 use Rattle.planner.specs.Windows.{window}
+use Rattle.planner.proofs.Windows.{window_long}
 use Rattle.planner.proofs.Soundness.{least_fits}
 use Rattle.planner.proofs.Backward.{forward, some_amount, bounded_amount, some_cost, span_amount, span_cost}
 use Rattle.planner.proofs.rows.Rows.lot.Goals as goal
@@ -30,7 +31,7 @@ ends c =
     let w : Window = window r in
     let s = c.args.span in
     let sp = c.requires.spans in
-    let narrow : length w.rows ≤ 256 = omega (arith, r.rows.ok.0, r.narrow) in
+    let narrow : length w.rows ≤ 256 = omega (arith, window_long r, r.narrow) in
     let from = ap (λ x. x.demanded) c.at-before.ensures in
     let to = ap (λ x. x.demanded) c.at-end.ensures in
     let paid = ap (λ x. x.least) c.at-before.ensures in
@@ -46,7 +47,7 @@ ends c =
         sp.later,
         sp.read,
         r.few,
-        r.rows.ok.0,
+        window_long r,
       );
     }
 
@@ -66,7 +67,7 @@ invariant_of-result c =
     let e = ends (goal.at.invariant_of-result c).After-at-end in
     let sp = c.requires.spans in
     let f = forward w r.sound c.args.span sp in
-    let read = c.read.ensures in record { from_first = omega (arith, sp.later); forward = f; read = omega (arith, sp.read); few = omega (arith, r.few, r.rows.ok.0); short = omega (arith, sp.later, sp.read, r.narrow, r.rows.ok.0); some = omega (arith, e.begun); bounded = omega (arith, e.bounded); affordable = omega (arith, e.affordable); settled = λ frozen. omega (arith, c.requires.settled frozen) }
+    let read = c.read.ensures in record { from_first = omega (arith, sp.later); forward = f; read = omega (arith, sp.read); few = omega (arith, r.few, window_long r); short = omega (arith, sp.later, sp.read, r.narrow, window_long r); some = omega (arith, e.begun); bounded = omega (arith, e.bounded); affordable = omega (arith, e.affordable); settled = λ frozen. omega (arith, c.requires.settled frozen) }
 
 pub returns : goal.returns
 unfolding lot

@@ -1,9 +1,8 @@
-use Rattle.std.proofs.Common.{sym, subst₂, arith}
-use Rattle.planner.specs.Describing.{Sound, window_of}
+use Rattle.std.proofs.Common.{sym, subst}
+use Rattle.planner.specs.Describing.{Sound, window_from}
 use Rattle.planner.proofs.Soundness.{sound_empty}
 use Rattle.planner.proofs.rows.Rows.new.Goals as goal
 
-pub invariant_of-result : goal.invariant_of-result
-invariant_of-result c =
-    let rows = c.in_ok-rows.ensures in
-    let options = c.in_ok-options.ensures in record { paired = omega arith; few = omega arith; narrow = omega arith; room = omega arith; options_room = omega arith; sound = ∣ subst₂ (λ rs os. Sound (window_of 0 (record { demanded = 0; least = 0; last = 0 }) rs os)) (sym rows.items) (sym options.items) sound_empty ∣₁ }
+pub invariant_of-result-clause-sound : goal.invariant_of-result-clause-sound
+invariant_of-result-clause-sound c =
+    ∣ subst (λ ps. Sound (window_from 0 (record { demanded = 0; least = 0; last = 0 }) ps)) (sym c.in_ok-with_capacity.ensures.items) sound_empty ∣₁

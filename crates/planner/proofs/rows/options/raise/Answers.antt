@@ -1,50 +1,42 @@
-use Rattle.std.proofs.Common.{◌≡◌, ℕ, suc, ◌+◌, ◌-◌, ◌*◌, length, get_or, ◌∙◌, ap₂, mul-le-mul, arith}
-use Rattle.costs.proofs.Answered.{price_told_lem}
-use Rattle.planner.proofs.Choosing.{walk_begins, walk_cheaper, walk_dearer, walk_ends}
+use Rattle.std.proofs.Common.{◌≡◌, ℕ, suc, ◌+◌, ◌-◌, ◌*◌, length, get_or, refl, sym, ◌∙◌, ap₂, arith}
+use Rattle.std.proofs.lemmas.List.{get_or-map}
+use Rattle.planner.specs.declared.rows.row.Period.{Period}
+use Rattle.planner.specs.Describing.{options_of}
+use Rattle.planner.proofs.Choosing.{walk_cheaper, walk_dearer}
 use Rattle.planner.proofs.rows.options.raise.Given as given
 use Rattle.planner.proofs.rows.options.raise.Goals as goal
-use Rattle.planner.proofs.rows.options.raise.Goals.{After-from}
+use Rattle.planner.proofs.rows.options.raise.Goals.{After-served}
 
--- the price told is that of making in the option's period for use in the next one
-told : (g : given.Over) (c : After-from g) →
-    c.unwrap-price.result ≡ g.M.CostModel.V c.args.model.now (suc (c.args.base + (c.loop-place.place - 1))) (suc (c.args.base + length c.args.options.now))
-told g c =
-    let j : ℕ = c.args.base + (c.loop-place.place - 1) + 1 in
-    let i : ℕ = c.args.base + length c.args.options.now + 1 in
-    let made : j ≡ suc (c.args.base + (c.loop-place.place - 1)) = omega arith in
-    let used : i ≡ suc (c.args.base + length c.args.options.now) = omega arith in
-    price_told_lem (g.M.CostModel.V c.args.model.now) j i _ _ c.price.ensures c.unwrap-price.ensures
-    ∙ ap₂ (g.M.CostModel.V c.args.model.now) made used
+-- a period that is none
+abbrev nought : Period
+nought = record { row = record { demanded = 0; least = 0; last = 0 }; option = 0 }
 
--- the option is raised from what it was
-raises : (g : given.Over) (c : After-from g) →
-    get_or c.loop-place.options (c.loop-place.place - 1) 0 + c.from.result * c.unwrap-price.result
-    ≡ get_or c.args.options.now (c.loop-place.place - 1) 0
-    + c.args.demand * g.M.CostModel.V c.args.model.now (suc (c.args.base + (c.loop-place.place - 1))) (suc (c.args.base + length c.args.options.now))
+-- the option that is raised next is as it was
+was : (g : given.Over) (c : After-served g) → (get_or c.loop-place.periods (c.loop-place.place - 1) nought).option ≡ get_or (options_of c.args.periods.now) (c.loop-place.place - 1) 0
+was g c =
+    let p : ℕ = c.loop-place.place - 1 in
+    sym (get_or-map (λ (q : Period). q.option) c.loop-place.periods p nought 0 (omega (arith, c.loop-place.invariant.1.long)))
+    ∙ c.loop-place.invariant.1.kept p (omega arith)
+
+-- and is raised from that
+raises : (g : given.Over) (c : After-served g) →
+    (get_or c.loop-place.periods (c.loop-place.place - 1) nought).option + c.served.result
+    ≡ get_or (options_of c.args.periods.now) (c.loop-place.place - 1) 0
+    + c.args.demand * g.M.CostModel.V c.args.model.now (suc (c.args.base + (c.loop-place.place - 1))) (suc (c.args.base + length c.args.periods.now))
 raises g c =
-    let kept = c.loop-place.invariant.1.kept (c.loop-place.place - 1) (omega arith) in
-    ap₂ ◌+◌ kept (ap₂ ◌*◌ c.from.ensures (told g c))
-
-pub loop-place-init : goal.loop-place-init
-loop-place-init g c = (c.requires.begins, walk_begins _ _ _)
+    let p : ℕ = c.loop-place.place - 1 in
+    let made : c.args.base + p + 1 ≡ suc (c.args.base + p) = omega arith in
+    let used : c.args.base + length c.args.periods.now + 1 ≡ suc (c.args.base + length c.args.periods.now) = omega arith in
+    ap₂ ◌+◌ (was g c) (c.served.ensures.is ∙ ap₂ (λ j i. c.args.demand * g.M.CostModel.V c.args.model.now j i) made used)
 
 pub overflow_add-cost : goal.overflow_add-cost
 overflow_add-cost g c =
-    let p : ℕ = c.loop-place.place - 1 in
-    let in-price = (g.met.M.CostModel.lawful c.args.model.now).price_fits (suc (c.args.base + p)) (suc (c.args.base + length c.args.options.now)) (omega arith) (omega arith) (omega arith) in
-    let cheap = mul-le-mul c.requires.small in-price in
-    omega (arith, raises g (goal.at.overflow_add-cost g c).After-from, c.requires.fits p (omega arith) (omega arith))
+    omega (arith, was g (goal.at.overflow_add-cost g c).After-served, c.requires.fits (c.loop-place.place - 1) (omega arith) (omega arith))
 
 pub loop-place-preserved-then-cost-best : goal.loop-place-preserved-then-cost-best
 loop-place-preserved-then-cost-best g c =
-    (omega arith, walk_cheaper _ _ _ _ _ _ _ _ _ (omega arith) (raises g (goal.at.loop-place-preserved-then-cost-best g c).After-from) c.loop-place.invariant.1 c.if-cost-best.true)
+    (omega arith, walk_cheaper _ _ _ _ _ _ _ _ _ nought (omega arith) (raises g (goal.at.loop-place-preserved-then-cost-best g c).After-served) refl c.loop-place.invariant.1 c.if-cost-best.true)
 
 pub loop-place-preserved : goal.loop-place-preserved
 loop-place-preserved g c =
-    (omega arith, walk_dearer _ _ _ _ _ _ _ _ _ (omega arith) (raises g (goal.at.loop-place-preserved g c).After-from) c.loop-place.invariant.1 c.if-cost-best.false)
-
-pub returns : goal.returns
-returns g c =
-    let e : c.loop-place.place ≡ c.args.first = omega arith in
-    let w = c.loop-place.invariant.1 in
-    record { long = w.long; raised = λ k l m. w.raised k (omega arith) m; chosen = walk_ends _ _ _ _ _ _ _ _ w e }
+    (omega arith, walk_dearer _ _ _ _ _ _ _ _ _ nought (omega arith) (raises g (goal.at.loop-place-preserved g c).After-served) refl c.loop-place.invariant.1 c.if-cost-best.false)
