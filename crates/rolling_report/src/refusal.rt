@@ -4,6 +4,7 @@ ghost use Rattle.rolling_report.specs.Refusals.{refusal_number, refusal_place};
 ghost use Rattle.rolling_report.specs.declared.refusal.Refusal.TheVariants.{Costs as OfCosts};
 
 use costs::CostFault;
+use lots::Refusal as Numbered;
 use planner::ReadRefusal;
 
 #[derive(Clone, Copy)]
