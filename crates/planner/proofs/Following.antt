@@ -165,11 +165,6 @@ pub none_told : (w : Window) (p : Option Span) → is_some p ≡ false → Tells
 none_told w None e h = h
 none_told w (Some s) e h = absurd (never (cc))
 
--- a call that is known by another name
-pub follows_as : (K : ℕ → ℕ) (V : ℕ → ℕ → ℕ) (w : Window) (left : List ℕ) (end : Ending FeedFault) (a b : Call) (answer : Answer FeedFault) (v : Window) (left' : List ℕ) (end' : Ending FeedFault) →
-    a ≡ b → Follows K V w left end b answer v left' end' → Follows K V w left end a answer v left' end'
-follows_as K V w left end a b answer v left' end' same f = subst (λ k. Follows K V w left end k answer v left' end') (sym same) f
-
 -- costs that are the same
 pub follows_costs : (K J : ℕ → ℕ) (V W : ℕ → ℕ → ℕ) (w : Window) (left : List ℕ) (end : Ending FeedFault) (a : Call) (answer : Answer FeedFault) (v : Window) (left' : List ℕ) (end' : Ending FeedFault) →
     K ≡ J → V ≡ W → Follows K V w left end a answer v left' end' → Follows J W w left end a answer v left' end'

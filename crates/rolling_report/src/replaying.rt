@@ -13,6 +13,7 @@ use crate::lines::{push_lot_line, push_refusal_line, push_total_line};
 use crate::print::{push_lots, push_refusal, refusal_line};
 use crate::refusal::Refusal;
 use feeds::TextFeed;
+use lots::Refusal as Numbered;
 use planner::{Answer, Call, Entry, Series, run_series};
 use std::alloc::{AllocError, Global};
 
@@ -22,11 +23,11 @@ fn push_answer(out: &mut Vec<u8>, answer: Answer) -> Result<(), AllocError>
     ensures { OnOk result (out.new.items ≡ out.old.items ++ answer_line (answer_of answer)) }
 {
     match answer {
-        Answer::Given(lot) => push_lot_line(out, &lot),
-        Answer::Accepted(true) => out.extend_from_slice(b"read yes\n"),
-        Answer::Accepted(false) => out.extend_from_slice(b"read no\n"),
-        Answer::NotRead(refusal) => push_refusal(out, Refusal::Read(refusal)),
-        Answer::NotTaken(refusal) => push_refusal_line(out, refusal.number() as u64, 0),
+        Answer::Read(Ok(true)) => out.extend_from_slice(b"read yes\n"),
+        Answer::Read(Ok(false)) => out.extend_from_slice(b"read no\n"),
+        Answer::Read(Err(refusal)) => push_refusal(out, Refusal::Read(refusal)),
+        Answer::Take(Ok(lot)) => push_lot_line(out, &lot),
+        Answer::Take(Err(refusal)) => push_refusal_line(out, refusal.number() as u64, 0),
     }
 }
 
@@ -35,7 +36,7 @@ fn cost_of(answer: Answer) -> u64
     ensures { result ≡ answer_cost (answer_of answer) }
 {
     match answer {
-        Answer::Given(lot) => lot.cost,
+        Answer::Take(Ok(lot)) => lot.cost,
         _ => 0,
     }
 }

@@ -17,14 +17,8 @@ impl<F: Feed, M: CostModel> Planner<F, M> {
         ensures model { self.new.model ≡ self.old.model }
     {
         match call {
-            Call::Read => match self.read() {
-                Ok(proved) => Answer::Accepted(proved),
-                Err(refusal) => Answer::NotRead(refusal),
-            },
-            Call::Take => match self.take() {
-                Ok(lot) => Answer::Given(lot),
-                Err(refusal) => Answer::NotTaken(refusal),
-            },
+            Call::Read => Answer::Read(self.read()),
+            Call::Take => Answer::Take(self.take()),
         }
     }
 }

@@ -1,7 +1,13 @@
-use Rattle.std.proofs.Common.{Ok, sym, ap, ◌∙◌, inr}
+use Rattle.std.proofs.Common.{map, Ok, vec_items, sym, ap, ◌∙◌, subst₂, inr}
 use Rattle.std.proofs.lemmas.Result.{err_from_is_err_and}
+use Rattle.theory.specs.Recursion.{Case}
+use Rattle.theory.specs.Series.{Rests}
+use Rattle.planner.specs.Answers.{handed_lot}
+use Rattle.planner.specs.Describing.{Describes, reading}
+use Rattle.planner.specs.Windows.{window}
 use Rattle.planner.proofs.Feeding.{told_some, told_end, told_fault}
 use Rattle.planner.proofs.Planning.{reading_none, reading_more, planned_fault, planned_whole}
+use Rattle.planner.proofs.Rolled.{closing_terms_lem}
 use Rattle.planner.proofs.whole.cheapest_plan.Goals as goal
 
 pub loop-init : goal.loop-init
@@ -16,7 +22,12 @@ returns-in_err-demand g c =
 pub returns-in_default : goal.returns-in_default
 returns-in_default g c =
     let end = told_end _ _ (sym (ap Ok c.in_default.is) ∙ sym c.in_ok-demand.was ∙ c.next.ensures.told) in
-    planned_whole _ _ _ _ _ _ _ _ c.loop.invariant c.loop-test.true end.0 _ end.1 c.in_ok-closing_lots.ensures
+    let made = c.new-in_default.ensures in
+    let emptied = c.in_ok-empty.ensures in
+    let rests = subst₂ (λ q b. (d : Case) → Describes d (window q) → Rests d (reading (window q)) b (map handed_lot (vec_items c.in_ok-empty.field-0)))
+    made.rows made.after emptied.rests in
+    planned_whole _ _ _ _ _ _ _ _ c.loop.invariant c.loop-test.true end.0 _ end.1
+    (λ d h. closing_terms_lem d _ _ _ (rests d h) emptied.closing)
 
 pub loop-preserved : goal.loop-preserved
 loop-preserved g c =
