@@ -1,7 +1,6 @@
 use costs::{ConstantCosts, CostFault, CostLine, CostModel, DatedCosts};
 use feeds::{Feed, Netting, OrderFeed, TextFeed};
-use lots::{Lot, Refusal};
-use lots::decimal::push_decimal;
+use lots::{Lot, LotKind, Refusal};
 use planner::{Answer, Call, ReadRefusal, Series, plan_forecast, run_series};
 use std::alloc::{AllocError, Global};
 use std::process::Abort;
@@ -14,15 +13,13 @@ fn tens() -> Result<ConstantCosts, CostFault> {
 
 // The calls that the letters stand for: r reads, any other takes.
 fn calls(heap: Global, letters: &[u8]) -> Result<Vec<Call>, AllocError> {
-    let mut calls = Vec::new(heap);
-    for letter in letters {
-        if *letter == b'r' {
-            calls.push(Call::Read)?;
-        } else {
-            calls.push(Call::Take)?;
-        }
-    }
-    Ok(calls)
+    letters
+        .iter()
+        .map(|letter| match letter {
+            b'r' => Call::Read,
+            _ => Call::Take,
+        })
+        .collect(heap)
 }
 
 fn series<F: Feed + Drop, M: CostModel + Drop>(
@@ -34,49 +31,25 @@ fn series<F: Feed + Drop, M: CostModel + Drop>(
     run_series(heap, feed, model, &calls(heap, letters)?)
 }
 
-// The answer of a call is this lot.
-fn gives(
-    rt: &impl Abort,
-    series: &Series,
-    call: usize,
-    from: u32,
-    through: u32,
-    amount: u32,
-    cost: u64,
-    evidence: u32,
-) -> Result<(), Fail> {
+// What a call was answered.
+fn answer(series: &Series, call: usize) -> Result<Answer, Fail> {
     let Some(entry) = series.entries.get(call) else {
         return Err(Fail::new("no such call"));
     };
-    let Answer::Take(Ok(lot)) = entry.answer else {
-        return Err(Fail::new("no lot"));
-    };
-    is_lot(rt, lot, from, through, amount, cost, evidence);
-    Ok(())
+    Ok(entry.answer)
 }
 
-fn is_lot(
-    rt: &impl Abort,
-    lot: Lot,
-    from: u32,
-    through: u32,
-    amount: u32,
-    cost: u64,
-    evidence: u32,
-) {
-    assert_eq!(rt; lot.from, from);
-    assert_eq!(rt; lot.through, through);
-    assert_eq!(rt; lot.amount, amount);
-    assert_eq!(rt; lot.cost, cost);
-    assert_eq!(rt; lot.evidence, evidence);
+// The lot that a call handed out.
+fn given(series: &Series, call: usize) -> Result<Lot, Fail> {
+    let Answer::Take(Ok(lot)) = answer(series, call)? else {
+        return Err(Fail::new("no lot"));
+    };
+    Ok(lot)
 }
 
 // The answer of a call is that no lot is proved.
 fn proves_none(rt: &impl Abort, series: &Series, call: usize) -> Result<(), Fail> {
-    let Some(entry) = series.entries.get(call) else {
-        return Err(Fail::new("no such call"));
-    };
-    assert!(rt; matches!(entry.answer, Answer::Take(Err(_))));
+    assert!(rt; matches!(answer(series, call)?, Answer::Take(Err(_))));
     Ok(())
 }
 
@@ -90,7 +63,18 @@ fn a_lot_is_frozen_once_it_is_proved(rt: HostRuntime) -> Result<(), Fail> {
     )?;
     proves_none(&rt, &s, 1)?;
     proves_none(&rt, &s, 3)?;
-    gives(&rt, &s, 5, 1, 2, 7, 13, 3)
+    assert_eq!(rt;
+        given(&s, 5)?,
+        Lot {
+            kind: LotKind::Frozen,
+            from: 1,
+            through: 2,
+            amount: 7,
+            cost: 13,
+            evidence: 3,
+        }
+    );
+    Ok(())
 }
 
 #[test]
@@ -108,7 +92,18 @@ fn ties_go_to_the_later_setup(rt: HostRuntime) -> Result<(), Fail> {
         tens()?,
         b"rrt",
     )?;
-    gives(&rt, &ten, 2, 1, 1, 4, 10, 2)
+    assert_eq!(rt;
+        given(&ten, 2)?,
+        Lot {
+            kind: LotKind::Frozen,
+            from: 1,
+            through: 1,
+            amount: 4,
+            cost: 10,
+            evidence: 2,
+        }
+    );
+    Ok(())
 }
 
 #[test]
@@ -120,11 +115,41 @@ fn the_set_proves_before_a_setup_in_the_last_period(rt: HostRuntime) -> Result<(
         b"rtrtrtrtrtt",
     )?;
     proves_none(&rt, &s, 7)?;
-    gives(&rt, &s, 9, 1, 1, 4, 10, 5)?;
+    assert_eq!(rt;
+        given(&s, 9)?,
+        Lot {
+            kind: LotKind::Frozen,
+            from: 1,
+            through: 1,
+            amount: 4,
+            cost: 10,
+            evidence: 5,
+        }
+    );
     proves_none(&rt, &s, 10)?;
     assert!(rt; s.closing.len() == 2);
-    is_lot(&rt, s.closing[0], 2, 3, 14, 15, 5);
-    is_lot(&rt, s.closing[1], 4, 5, 7, 14, 5);
+    assert_eq!(rt;
+        s.closing[0],
+        Lot {
+            kind: LotKind::Closing,
+            from: 2,
+            through: 3,
+            amount: 14,
+            cost: 15,
+            evidence: 5,
+        }
+    );
+    assert_eq!(rt;
+        s.closing[1],
+        Lot {
+            kind: LotKind::Closing,
+            from: 4,
+            through: 5,
+            amount: 7,
+            cost: 14,
+            evidence: 5,
+        }
+    );
     Ok(())
 }
 
@@ -136,7 +161,18 @@ fn idle_periods_belong_to_no_lot(rt: HostRuntime) -> Result<(), Fail> {
         tens()?,
         b"rrrrt",
     )?;
-    gives(&rt, &s, 4, 3, 3, 5, 10, 4)
+    assert_eq!(rt;
+        given(&s, 4)?,
+        Lot {
+            kind: LotKind::Frozen,
+            from: 3,
+            through: 3,
+            amount: 5,
+            cost: 10,
+            evidence: 4,
+        }
+    );
+    Ok(())
 }
 
 #[test]
@@ -147,12 +183,29 @@ fn two_lots_can_wait_at_one_period(rt: HostRuntime) -> Result<(), Fail> {
         tens()?,
         b"rrrrrrttt",
     )?;
-    let Some(waits) = s.entries.get(5) else {
-        return Err(Fail::new("no such call"));
-    };
-    assert!(rt; matches!(waits.answer, Answer::Read(Err(ReadRefusal::LotWaits))));
-    gives(&rt, &s, 6, 1, 1, 4, 10, 5)?;
-    gives(&rt, &s, 7, 2, 4, 17, 21, 5)?;
+    assert!(rt; matches!(answer(&s, 5)?, Answer::Read(Err(ReadRefusal::LotWaits))));
+    assert_eq!(rt;
+        given(&s, 6)?,
+        Lot {
+            kind: LotKind::Frozen,
+            from: 1,
+            through: 1,
+            amount: 4,
+            cost: 10,
+            evidence: 5,
+        }
+    );
+    assert_eq!(rt;
+        given(&s, 7)?,
+        Lot {
+            kind: LotKind::Frozen,
+            from: 2,
+            through: 4,
+            amount: 17,
+            cost: 21,
+            evidence: 5,
+        }
+    );
     proves_none(&rt, &s, 8)
 }
 
@@ -164,11 +217,8 @@ fn a_fault_is_told_again_and_again(rt: HostRuntime) -> Result<(), Fail> {
         tens()?,
         b"rrrrr",
     )?;
-    for call in 2..5usize {
-        let Some(entry) = s.entries.get(call) else {
-            return Err(Fail::new("no such call"));
-        };
-        let Answer::Read(Err(ReadRefusal::Feed(fault))) = entry.answer else {
+    for call in 2..5 {
+        let Answer::Read(Err(ReadRefusal::Feed(fault))) = answer(&s, call)? else {
             return Err(Fail::new("no fault"));
         };
         assert_eq!(rt; fault.number(), 10);
@@ -180,15 +230,12 @@ fn a_fault_is_told_again_and_again(rt: HostRuntime) -> Result<(), Fail> {
 }
 
 // A forecast of so many periods, each of the same demand.
-fn level(heap: Global, periods: u64, demand: u64) -> Result<Vec<u8>, AllocError> {
-    let mut text = Vec::new(heap);
-    for period in 0..periods {
-        push_decimal(&mut text, period + 1)?;
-        text.extend_from_slice(b",")?;
-        push_decimal(&mut text, demand)?;
-        text.extend_from_slice(b"\n")?;
+fn level(heap: Global, periods: u32, demand: u32) -> Result<String, AllocError> {
+    let mut text = String::new(heap);
+    for period in 1..=periods {
+        writeln!(text, "{period},{demand}")?;
     }
-    text.extend_from_slice(b"end\n")?;
+    writeln!(text, "end")?;
     Ok(text)
 }
 
@@ -196,10 +243,10 @@ fn level(heap: Global, periods: u64, demand: u64) -> Result<Vec<u8>, AllocError>
 fn the_window_is_full_at_256(rt: HostRuntime) -> Result<(), Fail> {
     let heap = rt.alloc();
     let text = level(heap, 256, 0)?;
-    let full = plan_forecast(heap, TextFeed::new(&text), tens()?)?;
+    let full = plan_forecast(heap, TextFeed::new(text.as_bytes()), tens()?)?;
     assert!(rt; matches!(full.stop, Some(ReadRefusal::WindowFull)));
     let text = level(heap, 255, 0)?;
-    let open = plan_forecast(heap, TextFeed::new(&text), tens()?)?;
+    let open = plan_forecast(heap, TextFeed::new(text.as_bytes()), tens()?)?;
     assert!(rt; open.stop.is_none());
     assert!(rt; open.lots.is_empty());
     Ok(())
@@ -209,10 +256,10 @@ fn the_window_is_full_at_256(rt: HostRuntime) -> Result<(), Fail> {
 fn ten_thousand_periods_are_read(rt: HostRuntime) -> Result<(), Fail> {
     let heap = rt.alloc();
     let text = level(heap, 10_000, 7)?;
-    let most = plan_forecast(heap, TextFeed::new(&text), tens()?)?;
+    let most = plan_forecast(heap, TextFeed::new(text.as_bytes()), tens()?)?;
     assert!(rt; matches!(most.stop, Some(ReadRefusal::LimitReached)));
     let text = level(heap, 9_999, 7)?;
-    let whole = plan_forecast(heap, TextFeed::new(&text), tens()?)?;
+    let whole = plan_forecast(heap, TextFeed::new(text.as_bytes()), tens()?)?;
     assert!(rt; whole.stop.is_none());
     let Some(last) = whole.lots.last() else {
         return Err(Fail::new("no lot"));
@@ -225,15 +272,23 @@ fn ten_thousand_periods_are_read(rt: HostRuntime) -> Result<(), Fail> {
 #[test]
 fn other_feeds_and_models_are_planned_alike(rt: HostRuntime) -> Result<(), Fail> {
     let heap = rt.alloc();
+    let lot = Lot {
+        kind: LotKind::Frozen,
+        from: 1,
+        through: 1,
+        amount: 4,
+        cost: 10,
+        evidence: 2,
+    };
     // 4 in the first period, 10 in the second.
     let words = b"\x80\x00\x00\x01\x00\x00\x00\x04\x80\x00\x00\x02\x00\x00\x00\x0a\xc0\x00\x00\x02";
     let orders = series(heap, OrderFeed::new(words), tens()?, b"rrt")?;
-    gives(&rt, &orders, 2, 1, 1, 4, 10, 2)?;
+    assert_eq!(rt; given(&orders, 2)?, lot);
     let Ok(netted) = Netting::new(TextFeed::new(b"1,9\n2,10\nend\n"), 5, Vec::new(heap)) else {
         return Err(Fail::new("refused"));
     };
     let stock = series(heap, netted, tens()?, b"rrt")?;
-    gives(&rt, &stock, 2, 1, 1, 4, 10, 2)?;
+    assert_eq!(rt; given(&stock, 2)?, lot);
     let line = CostLine {
         date: 1,
         setup: 10,
@@ -244,5 +299,6 @@ fn other_feeds_and_models_are_planned_alike(rt: HostRuntime) -> Result<(), Fail>
         return Err(Fail::new("refused"));
     };
     let dated = series(heap, TextFeed::new(b"1,4\n2,10\nend\n"), model, b"rrt")?;
-    gives(&rt, &dated, 2, 1, 1, 4, 10, 2)
+    assert_eq!(rt; given(&dated, 2)?, lot);
+    Ok(())
 }
