@@ -1,4 +1,1 @@
 mod Answering
-mod Following
-mod Layering
-mod Reading

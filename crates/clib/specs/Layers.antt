@@ -1,6 +1,9 @@
 -- Layers of netting that numbers describe, and what they make of a forecast.
-use Rattle.std.specs.Prelude.{ℕ, zero, suc, ◌*◌, cond, List, [], ◌∷◌, length, take, drop, Some, None, Ok, Err, Result, nat_lt}
+use Rattle.std.specs.Prelude.{ℕ, zero, suc, ◌*◌, ◌/◌, cond, List, [], ◌∷◌, map, length, take, drop, Some, None, Ok, Err, Result, nat_lt, slice_index}
+use Rattle.std.specs.Simd.{first_chunks}
+use Rattle.theory.specs.Endings.{Ending}
 use Rattle.theory.specs.Netting as theory
+use Rattle.feeds.specs.declared.fault.FeedFault.{FeedFault}
 use Rattle.feeds.specs.declared.receipt.Receipt.{Receipt}
 use Rattle.feeds.specs.Forecasts.{Forecast}
 use Rattle.feeds.specs.Netting.{above}
@@ -9,11 +12,13 @@ use Rattle.clib.specs.declared.error.Refusal.{Refusal}
 use Rattle.clib.specs.declared.error.Refusal.TheVariants.{Layout, Netting}
 use Rattle.clib.specs.Outcomes.{then}
 
--- two numbers are a receipt: its period and its amount
+-- the receipt that two numbers are: its period and its amount
+abbrev pub receipt_of : List ℕ → Receipt
+receipt_of ns = record { period = slice_index ns 0; amount = slice_index ns 1 }
+
+-- the receipts that numbers are, a single one at the end left out
 abbrev pub receipts_of : List ℕ → List Receipt
-receipts_of [] = []
-receipts_of (p ∷ []) = []
-receipts_of (p ∷ a ∷ ns) = record { period = p; amount = a } ∷ receipts_of ns
+receipts_of ns = map receipt_of (first_chunks 2 (length ns / 2) ns)
 
 -- a layer: its stock, its receipts, and the numbers behind it
 pub record Supplied : Type 0 where
@@ -21,12 +26,19 @@ pub record Supplied : Type 0 where
   pub receipts : List Receipt
   pub rest : List ℕ
 
+abbrev pub supplied : ℕ → List Receipt → List ℕ → Supplied
+supplied stock receipts rest = record { stock = stock; receipts = receipts; rest = rest }
+
 -- the layer at the front: a stock, how many receipts there are, and the receipts
 abbrev pub layer_due : List ℕ → Result Supplied Refusal
 layer_due [] = Err Layout
 layer_due (s ∷ []) = Err Layout
 layer_due (s ∷ n ∷ ns) =
-    cond (nat_lt (length ns) (2 * n)) (Err Layout) (Ok (record { stock = s; receipts = receipts_of (take (2 * n) ns); rest = drop (2 * n) ns }))
+    cond (nat_lt (length ns) (2 * n)) (Err Layout) (Ok (supplied s (receipts_of (take (2 * n) ns)) (drop (2 * n) ns)))
+
+-- what a feed still hands out, as a forecast
+abbrev pub forecast_of : {F : Type 0} → (F → List ℕ) → (F → Ending FeedFault) → F → Forecast
+forecast_of demands ending feed = record { demands = demands feed; ending = ending feed }
 
 -- what a layer makes of a forecast: the net demands, with the ending of the forecast below
 abbrev pub net_forecast : ℕ → List Receipt → Forecast → Forecast

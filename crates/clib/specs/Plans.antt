@@ -1,6 +1,8 @@
 -- The plan of a forecast and its lot file.
-use Rattle.std.specs.Prelude.{ℕ, cond, List, length, Some, None, Ok, Err, Option, Result, nat_le}
-use Rattle.lots.specs.Lots.{Terms}
+use Rattle.std.specs.Prelude.{ℕ, cond, List, map, length, Some, None, Ok, Err, vec_items, Option, Result, Vec, nat_le}
+use Rattle.std.specs.declared.alloc.Global.{Global}
+use Rattle.lots.specs.declared.lot.Lot.{Lot}
+use Rattle.lots.specs.Lots.{Terms, terms}
 use Rattle.costs.specs.declared.line.CostLine.{CostLine}
 use Rattle.costs.specs.Dated.{dated_setup, dated_price}
 use Rattle.feeds.specs.Forecasts.{Forecast}
@@ -14,6 +16,10 @@ use Rattle.clib.specs.Costs.{costs_due}
 use Rattle.clib.specs.Layers.{through}
 use Rattle.clib.specs.Numbers.{numbers_due}
 use Rattle.clib.specs.Outcomes.{then}
+
+-- the terms of lots
+abbrev pub terms_of : Vec Lot Global → List Terms
+terms_of v = map terms (vec_items v)
 
 -- lots of a forecast that was read to its end
 abbrev pub unless_stopped : Option ReadRefusal → List Terms → Result (List Terms) Refusal

@@ -5,6 +5,7 @@ ghost use Rattle.clib.specs.Outcomes.{Told};
 
 use crate::error::{PlanError, Refusal};
 use lotfile::WriteFault;
+use lots::Refusal as Numbered;
 
 // What `refusal` holds where memory was wanting.
 pub const NO_MEMORY: u32 = 4_294_967_295;

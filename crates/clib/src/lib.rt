@@ -9,6 +9,7 @@ ghost use Rattle.clib.specs.Plans.{file_due};
 pub mod answer;
 mod costing;
 pub mod error;
+mod groups;
 mod numbers;
 mod planning;
 mod supply;

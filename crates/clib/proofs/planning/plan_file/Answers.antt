@@ -1,4 +1,5 @@
 use Rattle.std.proofs.Common.{rules}
+use Rattle.clib.proofs.Answering.{filed_whole, filed_error}
 use Rattle.clib.specs.Plans.{file_due}
 use Rattle.clib.proofs.planning.plan_file.Goals as goal
 
@@ -14,6 +15,10 @@ pub returns-in_err-lots : goal.returns-in_err-lots
 unfolding file_due
 returns-in_err-lots c = search rules
 
+pub returns-in_err-file : goal.returns-in_err-file
+unfolding file_due
+returns-in_err-file c = search (rules, filed_error)
+
 pub returns : goal.returns
 unfolding file_due
-returns c = search rules
+returns g c = let done = filed_whole _ c.in_ok-file.file c.in_ok-file.ensures in search rules
