@@ -19,6 +19,8 @@ use crate::planning::plan_file;
 use feeds::{OrderFeed, TextFeed};
 use std::alloc::Global;
 
+// C has no generic functions, so each kind of demands has a call of its own, which names its feed and no more.
+
 // Plans a forecast text; its lot file goes to the front of `out`.
 #[unsafe(no_mangle)]
 pub extern "C" fn wirthedol_plan_text(

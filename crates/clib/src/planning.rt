@@ -82,6 +82,7 @@ impl<T: Through> Through for OneMore<T> {
 }
 
 // The lot file of the plan, or why there is none.
+#[tactic(auto, using(crate::proofs::Answering::filed_whole, crate::proofs::Answering::filed_error), unfolding(crate::specs::Plans::file_due))]
 pub fn plan_file<F: Feed + Drop>(
     heap: Global,
     charges: &[u8],
