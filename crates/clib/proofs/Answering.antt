@@ -17,7 +17,7 @@ use Rattle.clib.specs.declared.error.Refusal.TheVariants.{Writing}
 use Rattle.clib.specs.declared.error.PlanError.{PlanError}
 use Rattle.clib.specs.declared.error.PlanError.TheVariants.{Refused, NoMemory}
 use Rattle.clib.specs.Answers.{fitting, answer_of, left_of, error_answer, Answered}
-use Rattle.clib.specs.Outcomes.{then, Told, of_file}
+use Rattle.clib.specs.Outcomes.{and_then, Told, of_file}
 use Rattle.clib.specs.Plans.{filed}
 
 -- the bytes of a vector
@@ -26,7 +26,7 @@ bytes_of v = vec_items v
 
 pub handed_error : (out : List ℕ) (due : Result (List ℕ) Refusal) (e : PlanError) → Told bytes_of (Err e) due → Answered out due (error_answer e) out
 handed_error out due (Refused f) h =
-    let q : then due (fitting (length out)) ≡ Err f = ap (λ (d : Result (List ℕ) Refusal). then d (fitting (length out))) h in
+    let q : and_then due (fitting (length out)) ≡ Err f = ap (λ (d : Result (List ℕ) Refusal). and_then d (fitting (length out))) h in
     inl (sym (ap answer_of q), sym (ap (left_of out) q))
 handed_error out due NoMemory h = inr (refl, refl)
 
@@ -34,8 +34,8 @@ pub handed_no_room :
     (out : List ℕ) (due : Result (List ℕ) Refusal) (v : Vec ℕ Global) → length out < length (vec_items v) → Told bytes_of (Ok v) due
     → Answered out due (answer_of (Err (Writing NoRoom))) out
 handed_no_room out due v small h =
-    let q : then due (fitting (length out)) ≡ Err (Writing NoRoom) =
-    ap (λ (d : Result (List ℕ) Refusal). then d (fitting (length out))) h
+    let q : and_then due (fitting (length out)) ≡ Err (Writing NoRoom) =
+    ap (λ (d : Result (List ℕ) Refusal). and_then d (fitting (length out))) h
     ∙ cond-true (ltb (length out) (length (vec_items v))) (Err (Writing NoRoom)) (Ok (vec_items v)) (lt-ltb (length out) (length (vec_items v)) small)
     in
     inl (sym (ap answer_of q), sym (ap (left_of out) q))
@@ -53,8 +53,8 @@ pub handed_whole :
     → front ≡ vec_items v → Told bytes_of (Ok v) due → Answered out due (wrote n) (front ++ drop n out)
 handed_whole out due v n front e fits f h =
     let room : length (vec_items v) ≤ length out = omega (arith, e) in
-    let q : then due (fitting (length out)) ≡ Ok (vec_items v) =
-    ap (λ (d : Result (List ℕ) Refusal). then d (fitting (length out))) h
+    let q : and_then due (fitting (length out)) ≡ Ok (vec_items v) =
+    ap (λ (d : Result (List ℕ) Refusal). and_then d (fitting (length out))) h
     ∙ cond-false (ltb (length out) (length (vec_items v))) (Err (Writing NoRoom)) (Ok (vec_items v)) (le-ltb (length out) (length (vec_items v)) room)
     in
     inl (ap wrote e ∙ sym (ap answer_of q), ap (λ (xs : List ℕ). xs ++ drop n out) f ∙ ap (λ k. vec_items v ++ drop k out) e ∙ at_front out (vec_items v) ∙ sym (ap (left_of out) q))

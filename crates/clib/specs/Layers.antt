@@ -1,5 +1,5 @@
 -- Layers of netting that numbers describe, and what they make of a forecast.
-use Rattle.std.specs.Prelude.{ℕ, zero, suc, ◌*◌, ◌/◌, cond, List, [], ◌∷◌, map, length, take, drop, Some, None, Ok, Err, Result, nat_lt, slice_index}
+use Rattle.std.specs.Prelude.{ℕ, zero, suc, ◌*◌, ◌/◌, if◌then◌else◌, List, [], ◌∷◌, map, length, take, drop, Ok, Err, Result, nat_lt, slice_index}
 use Rattle.std.specs.Simd.{first_chunks}
 use Rattle.theory.specs.Endings.{Ending}
 use Rattle.theory.specs.Netting as theory
@@ -10,7 +10,7 @@ use Rattle.feeds.specs.Netting.{above}
 use Rattle.feeds.specs.Receipts.{supplies, supply_fault}
 use Rattle.clib.specs.declared.error.Refusal.{Refusal}
 use Rattle.clib.specs.declared.error.Refusal.TheVariants.{Layout, Netting}
-use Rattle.clib.specs.Outcomes.{then}
+use Rattle.clib.specs.Outcomes.{and_then, unless}
 
 -- the receipt that two numbers are: its period and its amount
 abbrev pub receipt_of : List ℕ → Receipt
@@ -26,6 +26,7 @@ pub record Supplied : Type 0 where
   pub receipts : List Receipt
   pub rest : List ℕ
 
+-- the layer of these three
 abbrev pub supplied : ℕ → List Receipt → List ℕ → Supplied
 supplied stock receipts rest = record { stock = stock; receipts = receipts; rest = rest }
 
@@ -34,7 +35,7 @@ abbrev pub layer_due : List ℕ → Result Supplied Refusal
 layer_due [] = Err Layout
 layer_due (s ∷ []) = Err Layout
 layer_due (s ∷ n ∷ ns) =
-    cond (nat_lt (length ns) (2 * n)) (Err Layout) (Ok (supplied s (receipts_of (take (2 * n) ns)) (drop (2 * n) ns)))
+    if nat_lt (length ns) (2 * n) then Err Layout else Ok (supplied s (receipts_of (take (2 * n) ns)) (drop (2 * n) ns))
 
 -- what a feed still hands out, as a forecast
 abbrev pub forecast_of : {F : Type 0} → (F → List ℕ) → (F → Ending FeedFault) → F → Forecast
@@ -47,10 +48,10 @@ net_forecast stock receipts f =
 
 -- the forecast above one layer, if its stock and receipts are right
 abbrev pub netted_due : ℕ → List Receipt → Forecast → Result Forecast Refusal
-netted_due stock receipts f = elim (supply_fault stock receipts) [ None ↦ Ok (net_forecast stock receipts f) | Some e ↦ Err (Netting e) ]
+netted_due stock receipts f = unless (supply_fault stock receipts) Netting (net_forecast stock receipts f)
 
 -- the forecast above all layers that the numbers describe, of which there are n at most
 abbrev pub through : ℕ → List ℕ → Forecast → Result Forecast Refusal
 through n [] f = Ok f
 through zero (x ∷ xs) f = Err Layout
-through (suc n) (x ∷ xs) f = then (layer_due (x ∷ xs)) (λ y. then (netted_due y.stock y.receipts f) (through n y.rest))
+through (suc n) (x ∷ xs) f = and_then (layer_due (x ∷ xs)) (λ y. and_then (netted_due y.stock y.receipts f) (through n y.rest))

@@ -10,11 +10,12 @@ use Rattle.planner.specs.declared.refusals.ReadRefusal.TheVariants.{Feed}
 use Rattle.clib.specs.declared.error.Refusal.{Refusal}
 use Rattle.clib.specs.declared.error.Refusal.TheVariants.{Layout, Costs, Netting, Reading, Writing}
 
--- a fault of the feed is told under its own number and at its own place, any other stop under the planner's number and at 0
+-- a fault of the feed is told under its own number, any other stop under the planner's
 abbrev pub stop_number : ReadRefusal → ℕ
 stop_number (Feed fault) = fault_number fault
 stop_number stop = read_number stop
 
+-- where the feed was wrong; 0 for any other stop
 abbrev pub stop_place : ReadRefusal → ℕ
 stop_place (Feed fault) = fault_place fault
 stop_place stop = 0

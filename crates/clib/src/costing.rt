@@ -22,19 +22,19 @@ fn cost_line(numbers: [u32; 4]) -> CostLine
     }
 }
 
+// The lines that numbers are, four by four.
 fn cost_lines(heap: Global, numbers: &[u32]) -> Result<Vec<CostLine>, PlanError>
     ensures { Told vec_items result (lines_due numbers.now) }
 {
     let lines = groups(numbers)?;
-    let lines = lines.iter().copied().map(cost_line).collect(heap)?;
-    Ok(lines)
+    Ok(lines.iter().copied().map(cost_line).collect(heap)?)
 }
 
+// The model of the lines that the numbers in the bytes are.
 pub fn costs(heap: Global, bytes: &[u8]) -> Result<DatedCosts, PlanError>
     ensures { Told lines_of result (costs_due bytes.now) }
 {
     let numbers = numbers(heap, bytes)?;
     let lines = cost_lines(heap, &numbers)?;
-    let model = DatedCosts::new(heap, &lines)?;
-    Ok(model)
+    Ok(DatedCosts::new(heap, &lines)?)
 }

@@ -32,8 +32,7 @@ pub extern "C" fn wirthedol_plan_text(
 ) -> Answer
     ensures { Answered out.old (file_due costs.now netting.now (forecast 0 0 demands.now)) result out.new }
 {
-    let file = plan_file(heap, costs, netting, TextFeed::new(demands));
-    hand_over(file, out)
+    hand_over(plan_file(heap, costs, netting, TextFeed::new(demands)), out)
 }
 
 // Plans order words in the same way.
@@ -47,6 +46,8 @@ pub extern "C" fn wirthedol_plan_orders(
 ) -> Answer
     ensures { Answered out.old (file_due costs.now netting.now (orders demands.now 0 0)) result out.new }
 {
-    let file = plan_file(heap, costs, netting, OrderFeed::new(demands));
-    hand_over(file, out)
+    hand_over(
+        plan_file(heap, costs, netting, OrderFeed::new(demands)),
+        out,
+    )
 }

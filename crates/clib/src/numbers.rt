@@ -7,10 +7,10 @@ use crate::error::PlanError;
 use crate::groups::groups;
 use std::alloc::Global;
 
+// The numbers that bytes are, four by four.
 pub fn numbers(heap: Global, bytes: &[u8]) -> Result<Vec<u32>, PlanError>
     ensures { Told vec_items result (numbers_due bytes.now) }
 {
     let words = groups(bytes)?;
-    let numbers = words.iter().copied().map(u32::from_be_bytes).collect(heap)?;
-    Ok(numbers)
+    Ok(words.iter().copied().map(u32::from_be_bytes).collect(heap)?)
 }

@@ -2,7 +2,7 @@
 ghost use Rattle.std.specs.Prelude.{ℕ, suc, vec_items};
 ghost use Rattle.clib.specs.Costs.{lines_of};
 ghost use Rattle.clib.specs.Layers.{forecast_of, through};
-ghost use Rattle.clib.specs.Outcomes.{Told, then};
+ghost use Rattle.clib.specs.Outcomes.{Told, and_then};
 ghost use Rattle.clib.specs.Plans.{terms_of, plan_due, file_due};
 
 use crate::costing::costs;
@@ -39,7 +39,7 @@ trait Through {
         feed: F,
         model: DatedCosts,
     ) -> Result<Vec<Lot>, PlanError>
-        ensures { Told terms_of result (then (through most netting.now (forecast_of F.demands F.ending feed)) (plan_due (lines_of model))) };
+        ensures { Told terms_of result (and_then (through most netting.now (forecast_of F.demands F.ending feed)) (plan_due (lines_of model))) };
 }
 
 // No layer at all.
@@ -94,6 +94,5 @@ pub fn plan_file<F: Feed + Drop>(
     let model = costs(heap, charges)?;
     let netting = numbers(heap, netting)?;
     let lots = <OneMore<OneMore<OneMore<Plain>>>>::plan(heap, &netting, feed, model)?;
-    let file = file(heap, &lots)?;
-    Ok(file)
+    Ok(file(heap, &lots)?)
 }

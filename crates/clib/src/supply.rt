@@ -26,6 +26,7 @@ fn receipt(numbers: [u32; 2]) -> Receipt
     }
 }
 
+// The receipts that numbers are, two by two.
 fn receipts(heap: Global, numbers: &[u32]) -> Result<Vec<Receipt>, AllocError>
     ensures { IfOk result (λ v. v.items ≡ receipts_of numbers.now) }
 {
@@ -54,7 +55,6 @@ impl Layer {
     pub fn over<F: Feed + Drop>(self, feed: F) -> Result<Netting<F>, PlanError>
         ensures { Told (forecast_of ⟦<Netting<F> as Feed>⟧.demands ⟦<Netting<F> as Feed>⟧.ending) result (netted_due self.stock self.receipts.items (forecast_of F.demands F.ending feed)) }
     {
-        let netting = Netting::new(feed, self.stock, self.receipts)?;
-        Ok(netting)
+        Ok(Netting::new(feed, self.stock, self.receipts)?)
     }
 }
