@@ -18,7 +18,11 @@ use std::alloc::Global;
 use std::marker::PhantomData;
 
 // The lots of all that the feed hands out.
-fn plan<F: Feed + Drop>(heap: Global, feed: F, model: DatedCosts) -> Result<Vec<Lot>, PlanError>
+fn plan_demands<F: Feed + Drop>(
+    heap: Global,
+    feed: F,
+    model: DatedCosts,
+) -> Result<Vec<Lot>, PlanError>
     ensures { Told terms_of result (plan_due (lines_of model) (forecast_of F.demands F.ending feed)) }
 {
     let planned = plan_forecast(heap, feed, model)?;
@@ -60,7 +64,7 @@ impl Through for Plain {
         if !netting.is_empty() {
             return Err(Refusal::Layout.into());
         }
-        plan(heap, feed, model)
+        plan_demands(heap, feed, model)
     }
 }
 
@@ -74,7 +78,7 @@ impl<T: Through> Through for OneMore<T> {
         model: DatedCosts,
     ) -> Result<Vec<Lot>, PlanError> {
         if netting.is_empty() {
-            return plan(heap, feed, model);
+            return plan_demands(heap, feed, model);
         }
         let (layer, rest) = Layer::split_first(heap, netting)?;
         T::plan(heap, rest, layer.over(feed)?, model)
