@@ -1,5 +1,5 @@
 -- What is handed over: the answer, and the caller's bytes.
-use Rattle.std.proofs.Common.{◌≡◌, ℕ, ◌+◌, ◌<◌, ◌≤◌, ltb, leb, List, ◌++◌, map, length, drop, Ok, Err, vec_items, Result, Vec, sym, refl, ap, ◌∙◌, inl, inr, arith}
+use Rattle.std.proofs.Common.{◌≡◌, ℕ, ◌+◌, ◌<◌, ◌≤◌, true, false, ltb, leb, List, ◌++◌, map, length, drop, Ok, Err, vec_items, Result, Vec, sym, refl, ap, ◌∙◌, inl, inr, arith}
 use lib.ListN.{length-map}
 use Rattle.std.proofs.lemmas.Bool.{cond-true, cond-false, lt-ltb, le-ltb, le-leb, lt-leb}
 use Rattle.std.specs.declared.alloc.Global.{Global}
@@ -17,31 +17,33 @@ use Rattle.clib.specs.declared.error.Refusal.TheVariants.{Writing}
 use Rattle.clib.specs.declared.error.PlanError.{PlanError}
 use Rattle.clib.specs.declared.error.PlanError.TheVariants.{Refused, NoMemory}
 use Rattle.clib.specs.Answers.{fitting, answer_of, left_of, error_answer, Answered}
-use Rattle.clib.specs.Outcomes.{then, Told, of_file}
+use Rattle.clib.specs.Outcomes.{and_then, Told, of_file}
 use Rattle.clib.specs.Plans.{filed}
 
 -- the bytes of a vector
 abbrev bytes_of : Vec ℕ Global → List ℕ
 bytes_of v = vec_items v
 
+-- the file that is due, if it fits
+abbrev fits : List ℕ → Result (List ℕ) Refusal → Result (List ℕ) Refusal
+fits out due = and_then due (fitting (length out))
+
+handed : (out : List ℕ) (due file : Result (List ℕ) Refusal) → fits out due ≡ file → Answered out due (answer_of file) (left_of out file)
+handed out due file q = inl (sym (ap answer_of q), sym (ap (left_of out) q))
+
 pub handed_error : (out : List ℕ) (due : Result (List ℕ) Refusal) (e : PlanError) → Told bytes_of (Err e) due → Answered out due (error_answer e) out
-handed_error out due (Refused f) h =
-    let q : then due (fitting (length out)) ≡ Err f = ap (λ (d : Result (List ℕ) Refusal). then d (fitting (length out))) h in
-    inl (sym (ap answer_of q), sym (ap (left_of out) q))
+handed_error out due (Refused f) h = handed out due (Err f) (ap (fits out) h)
 handed_error out due NoMemory h = inr (refl, refl)
 
 pub handed_no_room :
     (out : List ℕ) (due : Result (List ℕ) Refusal) (v : Vec ℕ Global) → length out < length (vec_items v) → Told bytes_of (Ok v) due
     → Answered out due (answer_of (Err (Writing NoRoom))) out
 handed_no_room out due v small h =
-    let q : then due (fitting (length out)) ≡ Err (Writing NoRoom) =
-    ap (λ (d : Result (List ℕ) Refusal). then d (fitting (length out))) h
-    ∙ cond-true (ltb (length out) (length (vec_items v))) (Err (Writing NoRoom)) (Ok (vec_items v)) (lt-ltb (length out) (length (vec_items v)) small)
-    in
-    inl (sym (ap answer_of q), sym (ap (left_of out) q))
+    let few : ltb (length out) (length (vec_items v)) ≡ true = lt-ltb (length out) (length (vec_items v)) small in
+    handed out due (Err (Writing NoRoom)) (ap (fits out) h ∙ cond-true _ _ _ few)
 
 -- bytes put at the front
-pub at_front : (out bytes : List ℕ) → bytes ++ drop (length bytes) out ≡ spliced out 0 bytes
+at_front : (out bytes : List ℕ) → bytes ++ drop (length bytes) out ≡ spliced out 0 bytes
 unfolding spliced
 at_front out bytes = let e : length bytes ≡ 0 + length bytes = omega arith in ap (λ k. bytes ++ drop k out) e
 
@@ -51,13 +53,9 @@ wrote n = record { refusal = 0; place = 0; written = n }
 pub handed_whole :
     (out : List ℕ) (due : Result (List ℕ) Refusal) (v : Vec ℕ Global) (n : ℕ) (front : List ℕ) → n ≡ length (vec_items v) → n ≤ length out
     → front ≡ vec_items v → Told bytes_of (Ok v) due → Answered out due (wrote n) (front ++ drop n out)
-handed_whole out due v n front e fits f h =
-    let room : length (vec_items v) ≤ length out = omega (arith, e) in
-    let q : then due (fitting (length out)) ≡ Ok (vec_items v) =
-    ap (λ (d : Result (List ℕ) Refusal). then d (fitting (length out))) h
-    ∙ cond-false (ltb (length out) (length (vec_items v))) (Err (Writing NoRoom)) (Ok (vec_items v)) (le-ltb (length out) (length (vec_items v)) room)
-    in
-    inl (ap wrote e ∙ sym (ap answer_of q), ap (λ (xs : List ℕ). xs ++ drop n out) f ∙ ap (λ k. vec_items v ++ drop k out) e ∙ at_front out (vec_items v) ∙ sym (ap (left_of out) q))
+handed_whole out due v n front e room f h =
+    let enough : ltb (length out) (length (vec_items v)) ≡ false = le-ltb (length out) (length (vec_items v)) (omega (arith, e)) in
+    rw (e, f, at_front out (vec_items v)) (handed out due (Ok (vec_items v)) (ap (fits out) h ∙ cond-false _ _ _ enough))
 
 -- a lot file as it is due
 pub filed_whole : (lots : List Lot) (v : Vec ℕ Global) → Filed lots (Ok v) → filed (map terms lots) ≡ Ok (vec_items v)

@@ -1,4 +1,2 @@
 mod Answering
-mod Following
-mod Layering
-mod Reading
+pub mod Reading

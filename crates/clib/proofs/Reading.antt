@@ -1,87 +1,56 @@
--- Numbers, cost lines and receipts, read from the front.
-use Rattle.std.proofs.Common.{◌≡◌, ℕ, ◌+◌, ◌-◌, ◌*◌, ◌<◌, ◌≤◌, List, [], ◌∷◌, ◌++◌, length, get_or, take, drop, Ok, Err, sym, refl, ap, ◌∙◌, arith}
-use Rattle.std.proofs.lemmas.List.{append-nil, append_assoc, take_rest}
-use Rattle.costs.specs.declared.line.CostLine.{CostLine}
-use Rattle.feeds.specs.declared.receipt.Receipt.{Receipt}
+-- Numbers, cost lines and receipts as they are read from the front: one group, and what the items behind it are.
+use Rattle.std.proofs.Common.{◌≡◌, ℕ, ◌+◌, ◌*◌, ◌/◌, ◌%◌, suc, Bool, true, false, cond, eqb, List, [], ◌∷◌, length, map, Ok, Err, Result, refl, ap, ap₂, ◌∙◌, arith}
+use Rattle.std.specs.Simd.{first_chunks}
+use Rattle.clib.specs.declared.error.Refusal.{Refusal}
 use Rattle.clib.specs.declared.error.Refusal.TheVariants.{Layout}
-use Rattle.clib.specs.Costs.{lines_due}
-use Rattle.clib.specs.Layers.{receipts_of}
-use Rattle.clib.specs.Numbers.{numbers_due}
-use Rattle.clib.specs.Outcomes.{then}
-use Rattle.clib.proofs.Following.{behind_more}
+use Rattle.clib.specs.Costs.{line_of, lines_due}
+use Rattle.clib.specs.Groups.{groups_due}
+use Rattle.clib.specs.Layers.{receipt_of, receipts_of}
+use Rattle.clib.specs.Numbers.{number_of, numbers_due}
+use Rattle.clib.specs.Outcomes.{and_then}
 
--- the number that the first four bytes are
-abbrev pub number_at : List ℕ → ℕ
-number_at bs = get_or bs 0 0 * 16777216 + get_or bs 1 0 * 65536 + get_or bs 2 0 * 256 + get_or bs 3 0
+then_test : {A B : Type 0} (b : Bool) (x : A) (next : A → Result B Refusal) → cond b (next x) (Err Layout) ≡ and_then (cond b (Ok x) (Err Layout)) next
+then_test true x next = refl
+then_test false x next = refl
 
-abbrev pub line : ℕ → ℕ → ℕ → ℕ → CostLine
-line d k c h = record { date = d; setup = k; unit = c; holding = h }
+then_each :
+    {A B : Type 0} (f : A → B) (x : A) (r : Result (List A) Refusal)
+    → and_then (and_then r (λ xs. Ok (x ∷ xs))) (λ xs. Ok (map f xs)) ≡ and_then (and_then r (λ xs. Ok (map f xs))) (λ ys. Ok (f x ∷ ys))
+then_each f x (Ok xs) = refl
+then_each f x (Err e) = refl
 
-pub same_line : (d k k' c c' h h' : ℕ) → k ≡ k' → c ≡ c' → h ≡ h' → line d k c h ≡ line d k' c' h'
-same_line d k k' c c' h h' ek ec eh = ap (λ x. line d x c h) ek ∙ ap (λ x. line d k' x h) ec ∙ ap (λ x. line d k' c' x) eh
+-- one group of four, and the groups of what is behind it
+pub four_more :
+    {X : Type 0} (a b c d : X) (xs : List X) → groups_due 4 (a ∷ b ∷ c ∷ d ∷ xs) ≡ and_then (groups_due 4 xs) (λ gs. Ok ((a ∷ b ∷ c ∷ d ∷ []) ∷ gs))
+four_more {X} a b c d xs =
+    let left : length (a ∷ b ∷ c ∷ d ∷ xs) % 4 ≡ length xs % 4 = omega arith in
+    let many : length (a ∷ b ∷ c ∷ d ∷ xs) / 4 ≡ suc (length xs / 4) = omega arith in
+    ap₂ (λ (m k : ℕ). cond (eqb m 0) (Ok (first_chunks 4 k (a ∷ b ∷ c ∷ d ∷ xs))) (Err Layout)) left many
+    ∙ then_test (eqb (length xs % 4) 0) (first_chunks 4 (length xs / 4) xs) (λ (gs : List (List X)). Ok ((a ∷ b ∷ c ∷ d ∷ []) ∷ gs))
 
--- the line that the first four numbers are
-abbrev pub line_at : List ℕ → CostLine
-line_at ns = record { date = get_or ns 0 0; setup = get_or ns 1 0; unit = get_or ns 2 0; holding = get_or ns 3 0 }
+-- three items or less make a group only where there are none
+pub none_or_few : {X : Type 0} (a b c : X)
+    → (groups_due {X = X} 4 [] ≡ Ok []) × (groups_due 4 (a ∷ []) ≡ Err Layout) × (groups_due 4 (a ∷ b ∷ []) ≡ Err Layout) × (groups_due 4 (a ∷ b ∷ c ∷ []) ≡ Err Layout)
+none_or_few a b c = (refl, refl, refl, refl)
 
-abbrev pub receipt : ℕ → ℕ → Receipt
-receipt p a = record { period = p; amount = a }
-
--- the receipt that the first two numbers are
-abbrev pub receipt_at : List ℕ → Receipt
-receipt_at ns = record { period = get_or ns 0 0; amount = get_or ns 1 0 }
-
+-- four bytes are a number
 pub numbers_more :
-    (bs done : List ℕ) → 4 ≤ length bs
-    → then (numbers_due bs) (λ ns. Ok (done ++ ns)) ≡ then (numbers_due (take (length bs - 4) (drop 4 bs))) (λ ns. Ok ((done ++ number_at bs ∷ []) ++ ns))
-numbers_more [] done h = absurd (omega arith)
-numbers_more (a ∷ []) done h = absurd (omega arith)
-numbers_more (a ∷ b ∷ []) done h = absurd (omega arith)
-numbers_more (a ∷ b ∷ c ∷ []) done h = absurd (omega arith)
-numbers_more (a ∷ b ∷ c ∷ d ∷ bs) done h =
-    behind_more (numbers_due bs) done _ ∙ ap (λ xs. then (numbers_due xs) (λ ns. Ok ((done ++ number_at (a ∷ b ∷ c ∷ d ∷ bs) ∷ []) ++ ns))) (sym (take_rest (a ∷ b ∷ c ∷ d ∷ bs) 4))
+    (a b c d : ℕ) (bs : List ℕ)
+    → numbers_due (a ∷ b ∷ c ∷ d ∷ bs) ≡ and_then (numbers_due bs) (λ ns. Ok ((a * 16777216 + b * 65536 + c * 256 + d) ∷ ns))
+numbers_more a b c d bs =
+    ap (λ (r : Result (List (List ℕ)) Refusal). and_then r (λ gs. Ok (map number_of gs))) (four_more a b c d bs)
+    ∙ then_each number_of (a ∷ b ∷ c ∷ d ∷ []) (groups_due 4 bs)
 
-pub numbers_cut : (bs : List ℕ) → (length bs ≡ 0 → ⊥) → length bs < 4 → numbers_due bs ≡ Err Layout
-numbers_cut [] some few = absurd (some refl)
-numbers_cut (a ∷ []) some few = refl
-numbers_cut (a ∷ b ∷ []) some few = refl
-numbers_cut (a ∷ b ∷ c ∷ []) some few = refl
-numbers_cut (a ∷ b ∷ c ∷ d ∷ bs) some few = absurd (omega arith)
-
-pub numbers_end : (bs done : List ℕ) → length bs ≡ 0 → then (numbers_due bs) (λ ns. Ok (done ++ ns)) ≡ Ok done
-numbers_end [] done none = ap Ok (append-nil done)
-numbers_end (a ∷ bs) done none = absurd (omega arith)
-
+-- four numbers are a line
 pub lines_more :
-    (ns : List ℕ) (done : List CostLine) → 4 ≤ length ns
-    → then (lines_due ns) (λ ls. Ok (done ++ ls)) ≡ then (lines_due (take (length ns - 4) (drop 4 ns))) (λ ls. Ok ((done ++ line_at ns ∷ []) ++ ls))
-lines_more [] done h = absurd (omega arith)
-lines_more (a ∷ []) done h = absurd (omega arith)
-lines_more (a ∷ b ∷ []) done h = absurd (omega arith)
-lines_more (a ∷ b ∷ c ∷ []) done h = absurd (omega arith)
-lines_more (a ∷ b ∷ c ∷ d ∷ ns) done h =
-    behind_more (lines_due ns) done _ ∙ ap (λ xs. then (lines_due xs) (λ ls. Ok ((done ++ line_at (a ∷ b ∷ c ∷ d ∷ ns) ∷ []) ++ ls))) (sym (take_rest (a ∷ b ∷ c ∷ d ∷ ns) 4))
+    (d k c h : ℕ) (ns : List ℕ)
+    → lines_due (d ∷ k ∷ c ∷ h ∷ ns) ≡ and_then (lines_due ns) (λ ls. Ok (record { date = d; setup = k; unit = c; holding = h } ∷ ls))
+lines_more d k c h ns =
+    ap (λ (r : Result (List (List ℕ)) Refusal). and_then r (λ gs. Ok (map line_of gs))) (four_more d k c h ns)
+    ∙ then_each line_of (d ∷ k ∷ c ∷ h ∷ []) (groups_due 4 ns)
 
-pub lines_cut : (ns : List ℕ) → (length ns ≡ 0 → ⊥) → length ns < 4 → lines_due ns ≡ Err Layout
-lines_cut [] some few = absurd (some refl)
-lines_cut (a ∷ []) some few = refl
-lines_cut (a ∷ b ∷ []) some few = refl
-lines_cut (a ∷ b ∷ c ∷ []) some few = refl
-lines_cut (a ∷ b ∷ c ∷ d ∷ ns) some few = absurd (omega arith)
-
-pub lines_end : (ns : List ℕ) (done : List CostLine) → length ns ≡ 0 → then (lines_due ns) (λ ls. Ok (done ++ ls)) ≡ Ok done
-lines_end [] done none = ap Ok (append-nil done)
-lines_end (a ∷ ns) done none = absurd (omega arith)
-
-pub receipts_more :
-    (ns : List ℕ) (done : List Receipt) → 2 ≤ length ns
-    → done ++ receipts_of ns ≡ (done ++ receipt_at ns ∷ []) ++ receipts_of (take (length ns - 2) (drop 2 ns))
-receipts_more [] done h = absurd (omega arith)
-receipts_more (a ∷ []) done h = absurd (omega arith)
-receipts_more (a ∷ b ∷ ns) done h =
-    sym (append_assoc done (receipt_at (a ∷ b ∷ ns) ∷ []) (receipts_of ns)) ∙ ap (λ xs. (done ++ receipt_at (a ∷ b ∷ ns) ∷ []) ++ receipts_of xs) (sym (take_rest (a ∷ b ∷ ns) 2))
-
-pub receipts_end : (ns : List ℕ) (done : List Receipt) → length ns < 2 → done ++ receipts_of ns ≡ done
-receipts_end [] done few = append-nil done
-receipts_end (a ∷ []) done few = append-nil done
-receipts_end (a ∷ b ∷ ns) done few = absurd (omega arith)
+-- two numbers are a receipt
+pub receipts_more : (p a : ℕ) (ns : List ℕ) → receipts_of (p ∷ a ∷ ns) ≡ record { period = p; amount = a } ∷ receipts_of ns
+receipts_more p a ns =
+    let many : length (p ∷ a ∷ ns) / 2 ≡ suc (length ns / 2) = omega arith in
+    ap (λ (k : ℕ). map receipt_of (first_chunks 2 k (p ∷ a ∷ ns))) many

@@ -1,5 +1,5 @@
 -- What the caller is told, and what is written for it.
-use Rattle.std.specs.Prelude.{◌≡◌, ℕ, cond, ◌⊎◌, List, length, Ok, Err, Result, nat_lt}
+use Rattle.std.specs.Prelude.{◌≡◌, ℕ, if◌then◌else◌, ◌⊎◌, List, length, Ok, Err, Result, nat_lt}
 use Rattle.lotfile.specs.declared.fault.WriteFault.TheVariants.{NoRoom}
 use Rattle.lotfile.specs.Writing.{spliced}
 use Rattle.clib.specs.declared.answer.Answer.{Answer}
@@ -7,12 +7,12 @@ use Rattle.clib.specs.declared.error.Refusal.{Refusal}
 use Rattle.clib.specs.declared.error.Refusal.TheVariants.{Writing}
 use Rattle.clib.specs.declared.error.PlanError.{PlanError}
 use Rattle.clib.specs.declared.error.PlanError.TheVariants.{Refused, NoMemory}
-use Rattle.clib.specs.Outcomes.{then}
+use Rattle.clib.specs.Outcomes.{and_then}
 use Rattle.clib.specs.Refusals.{refusal_number, refusal_place}
 
 -- a file that fits into so many bytes
 abbrev pub fitting : ℕ → List ℕ → Result (List ℕ) Refusal
-fitting room bytes = cond (nat_lt room (length bytes)) (Err (Writing NoRoom)) (Ok bytes)
+fitting room bytes = if nat_lt room (length bytes) then Err (Writing NoRoom) else Ok bytes
 
 -- refusal 0 and how many bytes were written, or the refusal by its number and place
 abbrev pub answer_of : Result (List ℕ) Refusal → Answer
@@ -36,5 +36,5 @@ error_answer NoMemory = no_memory
 -- the answer and the caller's bytes after it are those of the file that is due, if it fits; or memory was wanting, and no byte changed
 abbrev pub Answered : List ℕ → Result (List ℕ) Refusal → Answer → List ℕ → Type 0
 Answered out due answer left =
-    let file : Result (List ℕ) Refusal = then due (fitting (length out)) in
+    let file : Result (List ℕ) Refusal = and_then due (fitting (length out)) in
     ((answer ≡ answer_of file) × (left ≡ left_of out file)) ⊎ ((answer ≡ no_memory) × (left ≡ out))

@@ -1,5 +1,6 @@
 pub mod Answers
 pub mod Costs
+pub mod Groups
 pub mod Layers
 pub mod Numbers
 pub mod Outcomes

@@ -1,5 +1,5 @@
 -- How steps that may be refused follow each other, and what code that may also lack memory tells of them.
-use Rattle.std.specs.Prelude.{◌≡◌, Ok, Err, Result}
+use Rattle.std.specs.Prelude.{◌≡◌, Some, None, Ok, Err, Option, Result}
 use Rattle.costs.specs.declared.dated.making.DatedCostsError.{DatedCostsError}
 use Rattle.costs.specs.declared.dated.making.DatedCostsError.TheVariants.{Refused as RefusedLines, NoMemory as NoMemoryForLines}
 use Rattle.clib.specs.declared.error.Refusal.{Refusal}
@@ -10,9 +10,14 @@ use Rattle.clib.specs.declared.error.PlanError.{PlanError}
 use Rattle.clib.specs.declared.error.PlanError.TheVariants.{Refused, NoMemory}
 
 -- what follows a step: nothing where it is refused
-abbrev pub then : {A B : Type 0} → Result A Refusal → (A → Result B Refusal) → Result B Refusal
-then (Ok x) next = next x
-then (Err f) next = Err f
+abbrev pub and_then : {A B : Type 0} → Result A Refusal → (A → Result B Refusal) → Result B Refusal
+and_then (Ok x) next = next x
+and_then (Err f) next = Err f
+
+-- what is due, unless something is wrong with it
+abbrev pub unless : {A E : Type 0} → Option E → (E → Refusal) → A → Result A Refusal
+unless None refused x = Ok x
+unless (Some e) refused x = Err (refused e)
 
 -- code tells what is due, seen as `view` shows it, or that memory was wanting
 abbrev pub Told : {A B : Type 0} → (A → B) → Result A PlanError → Result B Refusal → Type 0

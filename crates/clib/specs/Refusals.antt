@@ -6,24 +6,19 @@ use Rattle.feeds.specs.Receipts.{netting_number}
 use Rattle.lotfile.specs.Writing.{write_number}
 use Rattle.planner.specs.Refusals.{read_number}
 use Rattle.planner.specs.declared.refusals.ReadRefusal.{ReadRefusal}
-use Rattle.planner.specs.declared.refusals.ReadRefusal.TheVariants.{LotWaits, WindowFull, LimitReached, FeedEnded, Feed}
+use Rattle.planner.specs.declared.refusals.ReadRefusal.TheVariants.{Feed}
 use Rattle.clib.specs.declared.error.Refusal.{Refusal}
 use Rattle.clib.specs.declared.error.Refusal.TheVariants.{Layout, Costs, Netting, Reading, Writing}
 
--- a fault of the feed is told under its own number and at its own place, any other stop under the planner's number and at 0
+-- a fault of the feed is told under its own number, any other stop under the planner's
 abbrev pub stop_number : ReadRefusal → ℕ
-stop_number LotWaits = read_number LotWaits
-stop_number WindowFull = read_number WindowFull
-stop_number LimitReached = read_number LimitReached
-stop_number FeedEnded = read_number FeedEnded
 stop_number (Feed fault) = fault_number fault
+stop_number stop = read_number stop
 
+-- where the feed was wrong; 0 for any other stop
 abbrev pub stop_place : ReadRefusal → ℕ
-stop_place LotWaits = 0
-stop_place WindowFull = 0
-stop_place LimitReached = 0
-stop_place FeedEnded = 0
 stop_place (Feed fault) = fault_place fault
+stop_place stop = 0
 
 -- the number of a refusal: 26 for another layout, and what each layer says of its own
 abbrev pub refusal_number : Refusal → ℕ
@@ -35,8 +30,5 @@ refusal_number (Writing fault) = write_number fault
 
 -- the byte of the demands that is wrong; 0 where no byte of them is
 abbrev pub refusal_place : Refusal → ℕ
-refusal_place Layout = 0
-refusal_place (Costs fault) = 0
-refusal_place (Netting fault) = 0
 refusal_place (Reading stop) = stop_place stop
-refusal_place (Writing fault) = 0
+refusal_place other = 0

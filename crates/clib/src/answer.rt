@@ -5,10 +5,12 @@ ghost use Rattle.clib.specs.Outcomes.{Told};
 
 use crate::error::{PlanError, Refusal};
 use lotfile::WriteFault;
+use lots::Refusal as Numbered;
 
 // What `refusal` holds where memory was wanting.
-pub const NO_MEMORY: u32 = 4_294_967_295;
+pub const NO_MEMORY: u32 = u32::MAX;
 
+// A number says how a call ended, and no enum, since callers in C read it by the layout of `include/wirthedol.h`.
 #[repr(C)]
 #[derive(Clone, Copy)]
 pub struct Answer {
@@ -20,22 +22,24 @@ pub struct Answer {
     pub written: u64,
 }
 
-impl Answer {
-    fn refused(refusal: Refusal) -> Answer
-        ensures { result ≡ answer_of (Err refusal) }
-    {
+impl From<Refusal> for Answer {
+    ghost from_gives = { λ f r. r ≡ answer_of (Err f) };
+
+    fn from(refusal: Refusal) -> Answer {
         Answer {
             refusal: refusal.number(),
             place: refusal.place() as u64,
             written: 0,
         }
     }
+}
 
-    fn without_plan(error: PlanError) -> Answer
-        ensures { result ≡ error_answer error }
-    {
+impl From<PlanError> for Answer {
+    ghost from_gives = { λ e r. r ≡ error_answer e };
+
+    fn from(error: PlanError) -> Answer {
         match error {
-            PlanError::Refused(refusal) => Answer::refused(refusal),
+            PlanError::Refused(refusal) => refusal.into(),
             PlanError::NoMemory => Answer {
                 refusal: NO_MEMORY,
                 place: 0,
@@ -46,16 +50,17 @@ impl Answer {
 }
 
 // Writes the file to the front of `out`, if there is one and it fits.
+#[tactic(auto, using(crate::proofs::Answering::handed_error, crate::proofs::Answering::handed_no_room, crate::proofs::Answering::handed_whole))]
 pub fn hand_over(file: Result<Vec<u8>, PlanError>, out: &mut [u8]) -> Answer
     ensures { (due : Result (List ℕ) Refusal) → Told vec_items file due → Answered out.old due result out.new }
 {
     let bytes = match file {
         Ok(bytes) => bytes,
-        Err(error) => return Answer::without_plan(error),
+        Err(error) => return error.into(),
     };
     let written = bytes.len();
     if written > out.len() {
-        return Answer::refused(Refusal::Writing(WriteFault::NoRoom));
+        return Refusal::Writing(WriteFault::NoRoom).into();
     }
     out[..written].copy_from_slice(&bytes);
     Answer {

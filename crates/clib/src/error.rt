@@ -2,10 +2,11 @@
 ghost use Rattle.std.specs.Prelude.{◌≡◌};
 ghost use Rattle.clib.specs.Refusals.{refusal_number, refusal_place};
 ghost use Rattle.clib.specs.Outcomes.{of_costs, of_file};
-ghost use Rattle.clib.specs.declared.error.PlanError.TheVariants.{NoMemory as WithoutMemory};
+ghost use Rattle.clib.specs.declared.error.PlanError.TheVariants.{Refused as ThatIsRefused, NoMemory as WithoutMemory};
+ghost use Rattle.clib.specs.declared.error.Refusal.TheVariants.{Netting as OfNetting};
 
 use costs::{DatedCostsError, DatedCostsFault};
-use feeds::NettingFault;
+use feeds::{NettingFault, NettingRefused};
 use lotfile::{FileError, WriteFault};
 use lots::Refusal as Numbered;
 use planner::ReadRefusal;
@@ -26,10 +27,10 @@ pub enum Refusal {
     Writing(WriteFault),
 }
 
-impl Refusal {
-    pub fn number(self) -> u32
-        ensures { result ≡ refusal_number self }
-    {
+impl Numbered for Refusal {
+    ghost numbered = { refusal_number };
+
+    fn number(&self) -> u32 {
         match self {
             Refusal::Layout => 26,
             Refusal::Costs(fault) => fault.number(),
@@ -39,7 +40,9 @@ impl Refusal {
             Refusal::Writing(fault) => fault.number(),
         }
     }
+}
 
+impl Refusal {
     // The byte of the demands that is wrong; 0 for every other refusal.
     pub fn place(self) -> usize
         ensures { result ≡ refusal_place self }
@@ -58,6 +61,14 @@ pub enum PlanError {
     NoMemory,
 }
 
+impl From<Refusal> for PlanError {
+    ghost from_gives = { λ f r. r ≡ ThatIsRefused f };
+
+    fn from(refusal: Refusal) -> PlanError {
+        PlanError::Refused(refusal)
+    }
+}
+
 impl From<AllocError> for PlanError {
     ghost from_gives = { λ _ r. r ≡ WithoutMemory };
 
@@ -74,6 +85,14 @@ impl From<DatedCostsError> for PlanError {
             DatedCostsError::Refused(fault) => PlanError::Refused(Refusal::Costs(fault)),
             DatedCostsError::NoMemory => PlanError::NoMemory,
         }
+    }
+}
+
+impl<F: Drop> From<NettingRefused<F>> for PlanError {
+    ghost from_gives = { λ e r. r ≡ ThatIsRefused (OfNetting e.fault) };
+
+    fn from(refused: NettingRefused<F>) -> PlanError {
+        PlanError::Refused(Refusal::Netting(refused.fault))
     }
 }
 

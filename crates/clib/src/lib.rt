@@ -9,6 +9,7 @@ ghost use Rattle.clib.specs.Plans.{file_due};
 pub mod answer;
 mod costing;
 pub mod error;
+mod groups;
 mod numbers;
 mod planning;
 mod supply;
@@ -17,6 +18,8 @@ use crate::answer::{Answer, hand_over};
 use crate::planning::plan_file;
 use feeds::{OrderFeed, TextFeed};
 use std::alloc::Global;
+
+// C has no generic functions, so each kind of demands has a call of its own, which names its feed and no more.
 
 // Plans a forecast text; its lot file goes to the front of `out`.
 #[unsafe(no_mangle)]
@@ -29,8 +32,7 @@ pub extern "C" fn wirthedol_plan_text(
 ) -> Answer
     ensures { Answered out.old (file_due costs.now netting.now (forecast 0 0 demands.now)) result out.new }
 {
-    let file = plan_file(heap, costs, netting, TextFeed::new(demands));
-    hand_over(file, out)
+    hand_over(plan_file(heap, costs, netting, TextFeed::new(demands)), out)
 }
 
 // Plans order words in the same way.
@@ -44,6 +46,8 @@ pub extern "C" fn wirthedol_plan_orders(
 ) -> Answer
     ensures { Answered out.old (file_due costs.now netting.now (orders demands.now 0 0)) result out.new }
 {
-    let file = plan_file(heap, costs, netting, OrderFeed::new(demands));
-    hand_over(file, out)
+    hand_over(
+        plan_file(heap, costs, netting, OrderFeed::new(demands)),
+        out,
+    )
 }

@@ -3,20 +3,14 @@ ghost use Rattle.std.specs.Prelude.{vec_items};
 ghost use Rattle.clib.specs.Outcomes.{Told};
 ghost use Rattle.clib.specs.Numbers.{numbers_due};
 
-use crate::error::{PlanError, Refusal};
+use crate::error::PlanError;
+use crate::groups::groups;
 use std::alloc::Global;
 
+// The numbers that bytes are, four by four.
 pub fn numbers(heap: Global, bytes: &[u8]) -> Result<Vec<u32>, PlanError>
     ensures { Told vec_items result (numbers_due bytes.now) }
 {
-    let mut numbers = Vec::with_capacity(heap, bytes.len() / 4)?;
-    let mut rest = bytes;
-    while let [a, b, c, d, more @ ..] = rest {
-        numbers.extend_from_slice(&[u32::from_be_bytes([*a, *b, *c, *d])])?;
-        rest = more;
-    }
-    if !rest.is_empty() {
-        return Err(PlanError::Refused(Refusal::Layout));
-    }
-    Ok(numbers)
+    let words = groups(bytes)?;
+    Ok(words.iter().copied().map(u32::from_be_bytes).collect(heap)?)
 }
