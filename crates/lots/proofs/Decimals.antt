@@ -1,4 +1,4 @@
--- One turn of the reader of decimal numbers, and what it has at its end.
+-- Decimal numbers: the digits at the front and what they are worth, while they are walked over and at the end; and that what is written is read back.
 use Rattle.std.proofs.Common.{◌≡◌, ℕ, suc, ◌+◌, ◌-◌, ◌*◌, ◌^◌, ◌<◌, ◌≤◌, min, Bool, true, false, cond, ◌&&◌, eqb, ltb, ◌⊎◌, List, [], ◌∷◌, ◌++◌, length, get_or, take, IfSome, Some, None, decimal, Option, sym, refl, ap, ◌∙◌, subst, inl, inr, ⊎_elim, map, Iter, arith}
 use native.Mathlib.Nat.{pow-le-pow_right}
 use Rattle.std.specs.Char.{is_ascii_digit}
@@ -79,9 +79,6 @@ field_bounded most stop bs = go (number_at most bs) (number_bounded most bs)
 pub number_told : (most : ℕ) (bs : List ℕ) (r : Option Numeral) → r ≡ number_at most bs → record { told : r ≡ number_at most bs; bounded : IfSome r (Bounded most bs) }
 number_told most bs r e = record { told = e; bounded = subst (λ o. IfSome o (Bounded most bs)) (sym e) (number_bounded most bs) }
 
-pub field_told : (most stop : ℕ) (bs : List ℕ) (r : Option Numeral) → r ≡ field_at most stop bs → record { told : r ≡ field_at most stop bs; bounded : IfSome r (Bounded most bs) }
-field_told most stop bs r e = record { told = e; bounded = subst (λ o. IfSome o (Bounded most bs)) (sym e) (field_bounded most stop bs) }
-
 too_long : (most : ℕ) (ds : List ℕ) → 20 ≤ length ds → well_formed most ds ≡ false
 unfolding well_formed
 too_long most ds l = grind (arith, nat_tests)
@@ -90,6 +87,7 @@ pub few_digits : (most : ℕ) (ds : List ℕ) → well_formed most ds ≡ true �
 unfolding well_formed
 few_digits most ds w = grind (arith, nat_tests)
 
+-- how many digits are counted until they are too many
 pub counted_front : (n : ℕ) (bs : List ℕ) (k : ℕ) → k ≡ length (take n (take (prefix_len is_ascii_digit bs) bs)) → take k bs ≡ take n (digits_at bs)
 unfolding digits_at
 counted_front n bs k e =
@@ -130,6 +128,7 @@ all_parts (a ∷ ds) bs h =
     let q = all_parts ds bs p.1 in
     (and_from _ _ p.0 q.0, q.1)
 
+-- a step of the walk, and what is known before it
 pub one_digit_more : (xs : List (Bor ℕ)) (x : Bor ℕ) (v w : ℕ) → v ≡ worth 0 (values xs) → w ≡ v * 10 + (x.now - 48) → w ≡ worth 0 (values (xs ++ x ∷ []))
 unfolding worth
 one_digit_more xs x v w h e =

@@ -1,4 +1,4 @@
--- The check of dated lines, one line on: x is the line that was read at i.
+-- The check of dated lines: what the library's calls answer of their dates and faults, and what is known of lines that pass.
 use Rattle.std.proofs.Common.{◌≡◌, ℕ, zero, suc, ◌+◌, ◌<◌, ◌≤◌, Bool, true, false, cond, ◌||◌, ltb, List, [], ◌∷◌, length, get_or, Some, None, Option, IfSome, MatchOption, sym, refl, ap, ◌∙◌, arith}
 use Rattle.std.specs.List.{AllAdjacentBelow, IsAllAdjacentAnswer, AllWithin, HoldsAt, slice_get}
 use Rattle.std.proofs.lemmas.Bool.{and_from, and_left, and_right, ltb-true, ltb-false, and_parts, or_parts}
@@ -7,16 +7,20 @@ use Rattle.lots.specs.declared.dated.FirstDate.{FirstDate}
 use Rattle.lots.specs.declared.dated.DatedFault.TheVariants.{Count, Dates, Line}
 use Rattle.lots.specs.Dated.{first_allowed, rises_behind, are_dates_right, earned_first, dated_fault}
 
+next : (k : ℕ) → suc k + 1 ≡ suc (k + 1)
+next k = omega arith
+
 -- each line dated before the next, as `is_sorted_by` answers it, is rising dates
 rises_from : {L : Type 0} (date : L → ℕ) (x : L) (xs : List L) → AllAdjacentBelow (λ a b. true ≡ ltb (date a) (date b)) (x ∷ xs) (length (x ∷ xs)) → rises_behind date (date x) xs ≡ true
 rises_from date x [] h = refl
 rises_from date x (y ∷ ys) h =
-    and_from _ _ (sym (h 0 x (omega arith))) (rises_from date y ys (λ k d l. let one : suc k + 1 ≡ suc (k + 1) = omega arith in rw one at (h (suc k) d (omega arith))))
+    and_from _ _ (sym (h 0 x (omega arith))) (rises_from date y ys (λ k d l. rw (next k) at (h (suc k) d (omega arith))))
 
+-- one line that is not dated before the next is enough to fail
 falls_from : {L : Type 0} (date : L → ℕ) (x : L) (xs : List L) (k : ℕ) → k + 1 < length (x ∷ xs) → ((d : L) → false ≡ ltb (date (get_or (x ∷ xs) k d)) (date (get_or (x ∷ xs) (k + 1) d))) → rises_behind date (date x) xs ≡ false
 falls_from date x [] k l e = absurd (omega arith)
 falls_from date x (y ∷ ys) zero l e = and_left _ _ (sym (e x))
-falls_from date x (y ∷ ys) (suc k) l e = and_right _ _ (falls_from date y ys k (omega arith) (λ d. let one : suc k + 1 ≡ suc (k + 1) = omega arith in rw one at (e d)))
+falls_from date x (y ∷ ys) (suc k) l e = and_right _ _ (falls_from date y ys k (omega arith) (λ d. rw (next k) at (e d)))
 
 pub dates_sorted :
     {L : Type 0} (date : L → ℕ) (first : FirstDate) (xs : List L) (r : Bool) → IfSome (slice_get xs 0) (λ x. first_allowed first (date x) ≡ true)
@@ -26,24 +30,29 @@ dates_sorted date first [] false a h = absurd (omega (arith, h.1))
 dates_sorted date first (x ∷ xs) true a h = sym (and_from _ _ a (rises_from date x xs h))
 dates_sorted date first (x ∷ xs) false a h = sym (and_right _ _ (falls_from date x xs h.0 h.1 h.2))
 
--- the first line that earns anything, by its place
-pub earned_found :
-    {L E : Type 0} (earned : L → Option E) (xs : List L) (r : Option E)
-    → MatchOption r (AllWithin (λ x. earned x ≡ None) xs 0 (length xs)) (λ y. (i : ℕ) × (i < length xs) × HoldsAt (λ x. earned x ≡ Some y) xs i × AllWithin (λ x. earned x ≡ None) xs 0 i)
-    → r ≡ earned_first earned xs
-earned_found earned [] None h = refl
-earned_found earned [] (Some y) h = absurd (omega (arith, h.1))
-earned_found earned (x ∷ xs) None h =
-    earned_found earned xs None (λ k d a l. h (suc k) d (omega arith) (omega arith)) ∙ ap (λ o. option_or o (earned_first earned xs)) (sym (h 0 x (omega arith) (omega arith)))
-earned_found earned (x ∷ xs) (Some y) h = go (earned_found earned xs (Some y)) h.0 h.1 h.2 h.3
-  where
-    go :
-        (MatchOption (Some y) (AllWithin (λ z. earned z ≡ None) xs 0 (length xs)) (λ w. (i : ℕ) × (i < length xs) × HoldsAt (λ z. earned z ≡ Some w) xs i × AllWithin (λ z. earned z ≡ None) xs 0 i) → Some y ≡ earned_first earned xs)
-        → (i : ℕ) → i < length (x ∷ xs) → HoldsAt (λ z. earned z ≡ Some y) (x ∷ xs) i → AllWithin (λ z. earned z ≡ None) (x ∷ xs) 0 i → Some y ≡ earned_first earned (x ∷ xs)
-    go others zero l e n = ap (λ o. option_or o (earned_first earned xs)) (sym (e x))
-    go others (suc i) l e n =
-        others (i, omega arith, e, λ k d a b. n (suc k) d (omega arith) (omega arith))
-        ∙ ap (λ o. option_or o (earned_first earned xs)) (sym (n 0 x (omega arith) (omega arith)))
+module _ {L E : Type 0} (earned : L → Option E) where
+  abbrev pub EarnsNothing : L → Type 0
+  EarnsNothing x = earned x ≡ None
+
+  earned_none : (xs : List L) → AllWithin EarnsNothing xs 0 (length xs) → earned_first earned xs ≡ None
+  earned_none [] h = refl
+  earned_none (x ∷ xs) h =
+      ap (λ o. option_or o (earned_first earned xs)) (h 0 x (omega arith) (omega arith)) ∙ earned_none xs (λ k d a l. h (suc k) d (omega arith) (omega arith))
+
+  earned_at : (xs : List L) (y : E) (i : ℕ) → i < length xs → HoldsAt (λ x. earned x ≡ Some y) xs i → AllWithin EarnsNothing xs 0 i → earned_first earned xs ≡ Some y
+  earned_at [] y i l e n = absurd (omega arith)
+  earned_at (x ∷ xs) y zero l e n = ap (λ o. option_or o (earned_first earned xs)) (e x)
+  earned_at (x ∷ xs) y (suc i) l e n =
+      ap (λ o. option_or o (earned_first earned xs)) (n 0 x (omega arith) (omega arith))
+      ∙ earned_at xs y i (omega arith) e (λ k d a b. n (suc k) d (omega arith) (omega arith))
+
+  -- what the first line earns that earns anything, by its place
+  abbrev pub IsFound : List L → Option E → Type 0
+  IsFound xs r = MatchOption r (AllWithin EarnsNothing xs 0 (length xs)) (λ y. (i : ℕ) × (i < length xs) × HoldsAt (λ x. earned x ≡ Some y) xs i × AllWithin EarnsNothing xs 0 i)
+
+  pub earned_found : (xs : List L) (r : Option E) → IsFound xs r → r ≡ earned_first earned xs
+  earned_found xs None h = sym (earned_none xs h)
+  earned_found xs (Some y) h = sym (earned_at xs y h.0 h.1 h.2 h.3)
 
 -- rising dates are all later than the one before them
 pub rises_past : {L : Type 0} (date : L → ℕ) (last : ℕ) (xs : List L) (z : L) (k : ℕ) → rises_behind date last xs ≡ true → k < length xs → last < date (get_or xs k z)

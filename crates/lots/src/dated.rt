@@ -19,7 +19,7 @@ pub trait DatedLine {
         ensures { result ≡ earned self.now };
 }
 
-// A refusal that is told by its number.
+// A refusal that is told by its number: programs print it, and C callers are answered with it.
 pub trait Refusal {
     ghost numbered: { Self → ℕ };
 
@@ -88,7 +88,7 @@ pub fn check_dated<L: DatedLine>(
 ) -> Result<(), DatedFault<L::Fault>>
     ensures { result_err result ≡ dated_fault L.dated L.earned fewest most first lines.now }
 {
-    if lines.len() < fewest || lines.len() > most {
+    if !(fewest..=most).contains(&lines.len()) {
         return Err(DatedFault::Count);
     }
     if !dates_right(lines, first) {
