@@ -1,4 +1,4 @@
--- What is told of a forecast, and what is left of it, whatever it was read from.
+-- What holds of every forecast, whatever it was read from.
 use Rattle.std.proofs.Common.{◌≡◌, ℕ, suc, ◌≤◌, [], ◌∷◌, length, Some, None, Ok, Err, Option, Result, sym, refl, ap, ◌∙◌, subst, arith}
 use Rattle.theory.specs.Endings.{Ending}
 use Rattle.feeds.specs.declared.fault.FeedFault.{FeedFault}

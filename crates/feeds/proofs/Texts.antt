@@ -27,9 +27,6 @@ line_fits bs = go (field_at 7 44 bs) (field_bounded 7 44 bs)
     go None h = tt
     go (Some p) h = on p h (field_at 7 10 (drop p.length bs)) (field_bounded 7 10 (drop p.length bs))
 
-pub line_told : (bs : List ℕ) (r : Option Line) → r ≡ line_at bs → record { told : r ≡ line_at bs; fits : IfSome r (LineFits bs) }
-line_told bs r e = record { told = e; fits = subst (λ o. IfSome o (LineFits bs)) (sym e) (line_fits bs) }
-
 -- a line that is read takes some of the bytes
 abbrev Takes : Result (Option Line) RecordFault → Type 0
 Takes r = IfOk r (λ o. IfSome o (λ l. 1 ≤ l.length))
