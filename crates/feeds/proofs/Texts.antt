@@ -1,7 +1,7 @@
 -- What holds of every line, record and forecast of a text, whatever its bytes.
-use Rattle.std.proofs.Common.{◌≡◌, ℕ, zero, suc, ◌+◌, ◌-◌, ◌≤◌, eqb, leb, List, [], ◌∷◌, length, drop, IfSome, IfOk, Some, None, Ok, Option, Result, sym, refl, ap, ◌∙◌, subst, arith, length-drop}
+use Rattle.std.proofs.Common.{◌≡◌, ℕ, zero, suc, ◌+◌, ◌-◌, ◌≤◌, eqb, leb, List, [], ◌∷◌, length, drop, IfSome, IfOk, Some, None, Ok, Option, Result, refl, ap, ◌∙◌, subst, arith, length-drop}
 use Rattle.std.proofs.lemmas.List.{drop-drop}
-use Rattle.std.proofs.lemmas.Bool.{cond_both, leb-true, eqb-true}
+use Rattle.std.proofs.lemmas.Bool.{cond_both}
 use Rattle.lots.specs.declared.decimal.Numeral.{Numeral}
 use Rattle.lots.specs.Decimals.{field_at, Bounded}
 use Rattle.lots.proofs.Decimals.{field_bounded}
@@ -12,7 +12,7 @@ use Rattle.feeds.specs.declared.line.Line.{Line}
 use Rattle.feeds.specs.Lines.{LineFits}
 use Rattle.feeds.specs.Text.{line_of, line_after, line_at, front_of, checked, record_of, record_at, forecast_in, forecast}
 use Rattle.feeds.specs.Forecasts.{goes_further}
-use Rattle.feeds.proofs.Forecasts.{preceded, same_rest}
+use Rattle.feeds.proofs.Forecasts.{same_rest}
 
 line_fits : (bs : List ℕ) → IfSome (line_at bs) (LineFits bs)
 unfolding line_at

@@ -1,5 +1,5 @@
 -- What is known of every line of a forecast text.
-use Rattle.std.specs.Prelude.{ℕ, ◌+◌, ◌^◌, ◌<◌, ◌≤◌, List, length}
+use Rattle.std.specs.Prelude.{ℕ, ◌^◌, ◌<◌, ◌≤◌, List, length}
 use Rattle.feeds.specs.declared.line.Line.{Line}
 
 -- a line that stands at the front of these bytes
