@@ -1,9 +1,6 @@
--- What is told of a forecast, and what is left of it, whatever it was read from.
-use Rattle.std.proofs.Common.{◌≡◌, ℕ, suc, ◌≤◌, [], ◌∷◌, length, Some, None, Ok, Err, Option, Result, sym, refl, ap, ◌∙◌, subst, arith}
-use Rattle.theory.specs.Endings.{Ending}
-use Rattle.feeds.specs.declared.fault.FeedFault.{FeedFault}
+-- What holds of every forecast, whatever it was read from.
+use Rattle.std.proofs.Common.{◌≡◌, ℕ, ◌∷◌, Some, None, Ok, Err, Option, Result, refl, ap}
 use Rattle.feeds.specs.declared.fault.RecordFault.{RecordFault}
-use Rattle.feeds.specs.Feeding.{end_told, next_told, others, Small}
 use Rattle.feeds.specs.Forecasts.{Forecast, goes_further}
 
 -- a forecast with one demand more in front

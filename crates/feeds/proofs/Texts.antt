@@ -1,7 +1,7 @@
 -- What holds of every line, record and forecast of a text, whatever its bytes.
-use Rattle.std.proofs.Common.{◌≡◌, ℕ, zero, suc, ◌+◌, ◌-◌, ◌≤◌, eqb, leb, List, [], ◌∷◌, length, drop, IfSome, IfOk, Some, None, Ok, Option, Result, sym, refl, ap, ◌∙◌, subst, arith, length-drop}
+use Rattle.std.proofs.Common.{◌≡◌, ℕ, zero, suc, ◌+◌, ◌-◌, ◌≤◌, eqb, leb, List, [], ◌∷◌, length, drop, IfSome, IfOk, Some, None, Ok, Option, Result, refl, ap, ◌∙◌, subst, arith, length-drop}
 use Rattle.std.proofs.lemmas.List.{drop-drop}
-use Rattle.std.proofs.lemmas.Bool.{cond_both, leb-true, eqb-true}
+use Rattle.std.proofs.lemmas.Bool.{cond_both}
 use Rattle.lots.specs.declared.decimal.Numeral.{Numeral}
 use Rattle.lots.specs.Decimals.{field_at, Bounded}
 use Rattle.lots.proofs.Decimals.{field_bounded}
@@ -12,7 +12,7 @@ use Rattle.feeds.specs.declared.line.Line.{Line}
 use Rattle.feeds.specs.Lines.{LineFits}
 use Rattle.feeds.specs.Text.{line_of, line_after, line_at, front_of, checked, record_of, record_at, forecast_in, forecast}
 use Rattle.feeds.specs.Forecasts.{goes_further}
-use Rattle.feeds.proofs.Forecasts.{preceded, same_rest}
+use Rattle.feeds.proofs.Forecasts.{same_rest}
 
 line_fits : (bs : List ℕ) → IfSome (line_at bs) (LineFits bs)
 unfolding line_at
@@ -26,9 +26,6 @@ line_fits bs = go (field_at 7 44 bs) (field_bounded 7 44 bs)
     go : (o : Option Numeral) → IfSome o (Bounded 7 bs) → IfSome (line_after bs o) (LineFits bs)
     go None h = tt
     go (Some p) h = on p h (field_at 7 10 (drop p.length bs)) (field_bounded 7 10 (drop p.length bs))
-
-pub line_told : (bs : List ℕ) (r : Option Line) → r ≡ line_at bs → record { told : r ≡ line_at bs; fits : IfSome r (LineFits bs) }
-line_told bs r e = record { told = e; fits = subst (λ o. IfSome o (LineFits bs)) (sym e) (line_fits bs) }
 
 -- a line that is read takes some of the bytes
 abbrev Takes : Result (Option Line) RecordFault → Type 0

@@ -13,7 +13,7 @@ use Rattle.feeds.specs.declared.line.Line.{Line}
 use Rattle.feeds.specs.declared.period.Period.{Period}
 use Rattle.feeds.specs.Feeding.{Small}
 use Rattle.feeds.specs.Forecasts.{Forecast, goes_further}
-use Rattle.feeds.specs.Orders.{counted, opens, summed, period_in, period_at, some, begun, order_at, orders_in, orders}
+use Rattle.feeds.specs.Orders.{counted, summed, period_in, period_at, some, begun, order_at, orders_in, orders}
 use Rattle.feeds.specs.Receipts.{netted}
 use Rattle.feeds.specs.Text.{line_at, front_of, checked, record_of, record_at, forecast_in, forecast}
 

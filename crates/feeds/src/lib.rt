@@ -5,7 +5,7 @@ mod cursor;
 pub mod examples;
 pub mod fault;
 pub mod feed;
-pub mod format;
+mod format;
 mod line;
 pub mod netting;
 pub mod orders;
@@ -16,6 +16,7 @@ pub mod text;
 
 pub use fault::{FeedFault, RecordFault, RecordFaultKind};
 pub use feed::Feed;
+pub use format::ByteFeed;
 pub use netting::Netting;
 pub use netting::fault::NettingFault;
 pub use netting::making::NettingRefused;

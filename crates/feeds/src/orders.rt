@@ -7,7 +7,7 @@ ghost use Rattle.feeds.specs.SmallDemands.{orders_small};
 use crate::cursor::Cursor;
 use crate::fault::RecordFault;
 use crate::format::{ByteFeed, Format};
-use crate::period::{Period, opens_period, read_period, word_due};
+use crate::period::Period;
 
 // Words that open a period, order and cancel in it, and end the file.
 pub struct OrderWords;
@@ -19,8 +19,8 @@ pub type OrderFeed<'a> = ByteFeed<'a, OrderWords>;
 fn period_due(at: &Cursor<'_>) -> Result<Option<Period>, RecordFault>
     ensures { result ≡ order_at at.now.text.now at.now.place at.now.handed }
 {
-    if opens_period(at, word_due(at)?)? {
-        return Ok(Some(read_period(&at.past(4))?));
+    if at.opens_period(at.word()?)? {
+        return Ok(Some(at.past(4).read_period()?));
     }
     Ok(None)
 }
