@@ -1,8 +1,10 @@
-use lots::decimal::push_decimal;
 use report::{lot_file, refusal_line, report, report_orders};
 use std::alloc::{AllocError, Global};
 use std::process::Abort;
 use std::test::Fail;
+
+// The tests of `rolling_report` have the next helpers too: a crate for both would make them public, and a public function has a
+// contract and a must-fail edit here, which say nothing of one that stops where a test fails.
 
 fn prints(rt: &impl Abort, heap: Global, input: &[u8], output: &[u8]) -> Result<(), Fail> {
     let out = report(heap, input)?;
@@ -62,30 +64,28 @@ fn an_input_has_at_most_65536_bytes(rt: HostRuntime) -> Result<(), Fail> {
 }
 
 // A forecast of so many periods with the largest demand, at the highest costs.
-fn dearest(heap: Global, periods: u64) -> Result<Vec<u8>, AllocError> {
-    let mut input = Vec::from_slice(heap, b"1000000000,100000,3000\n")?;
+fn dearest(heap: Global, periods: u32) -> Result<String, AllocError> {
+    let mut input = String::new(heap);
+    writeln!(input, "1000000000,100000,3000")?;
     for period in 1..=periods {
-        push_decimal(&mut input, period)?;
-        input.extend_from_slice(b",1000000\n")?;
+        writeln!(input, "{period},1000000")?;
     }
-    input.extend_from_slice(b"end\n")?;
+    writeln!(input, "end")?;
     Ok(input)
 }
 
 #[test]
 fn the_window_holds_255_periods(rt: HostRuntime) -> Result<(), Fail> {
     let heap = rt.alloc();
-    let mut output = Vec::new(heap);
-    for period in 1..=255 {
-        output.extend_from_slice(b"closing ")?;
-        push_decimal(&mut output, period)?;
-        output.push(b' ')?;
-        push_decimal(&mut output, period)?;
-        output.extend_from_slice(b" 1000000 101000000000 255\n")?;
+    let mut output = String::new(heap);
+    for period in 1..=255u32 {
+        writeln!(output, "closing {period} {period} 1000000 101000000000 255")?;
     }
-    output.extend_from_slice(b"total 25755000000000\n")?;
-    prints(&rt, heap, &dearest(heap, 255)?, &output)?;
-    prints(&rt, heap, &dearest(heap, 256)?, b"refused 19 at 0\n")
+    writeln!(output, "total 25755000000000")?;
+    let open = dearest(heap, 255)?;
+    prints(&rt, heap, open.as_bytes(), output.as_bytes())?;
+    let full = dearest(heap, 256)?;
+    prints(&rt, heap, full.as_bytes(), b"refused 19 at 0\n")
 }
 
 // The words behind the costs 10, 0 and 1.
@@ -135,24 +135,20 @@ fn orders_are_refused(rt: HostRuntime) -> Result<(), Fail> {
 }
 
 fn files(rt: &impl Abort, heap: Global, input: &[u8], output: &[u8]) -> Result<(), Fail> {
-    match lot_file(heap, input)? {
-        Ok(bytes) => {
-            assert_eq!(rt; bytes.as_slice(), output);
-            Ok(())
-        },
-        Err(_) => Err(Fail::new("refused")),
-    }
+    let Ok(file) = lot_file(heap, input)? else {
+        return Err(Fail::new("refused"));
+    };
+    assert_eq!(rt; file.as_slice(), output);
+    Ok(())
 }
 
 fn files_nothing(rt: &impl Abort, heap: Global, input: &[u8], why: &[u8]) -> Result<(), Fail> {
-    match lot_file(heap, input)? {
-        Ok(_) => Err(Fail::new("not refused")),
-        Err(refusal) => {
-            let line = refusal_line(heap, refusal)?;
-            assert_eq!(rt; line.as_slice(), why);
-            Ok(())
-        }
-    }
+    let Err(refusal) = lot_file(heap, input)? else {
+        return Err(Fail::new("not refused"));
+    };
+    let line = refusal_line(heap, refusal)?;
+    assert_eq!(rt; line.as_slice(), why);
+    Ok(())
 }
 
 #[test]

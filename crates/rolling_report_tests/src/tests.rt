@@ -1,8 +1,10 @@
-use lots::decimal::push_decimal;
 use rolling_report::{calls_of, lot_file, refusal_line, replay, report, report_orders};
 use std::alloc::{AllocError, Global};
 use std::process::Abort;
 use std::test::Fail;
+
+// The tests of `report` have the next helpers too: a crate for both would make them public, and a public function has a
+// contract and a must-fail edit here, which say nothing of one that stops where a test fails.
 
 fn prints(rt: &impl Abort, heap: Global, input: &[u8], output: &[u8]) -> Result<(), Fail> {
     let out = report(heap, input)?;
@@ -65,58 +67,41 @@ fn an_input_has_at_most_65536_bytes(rt: HostRuntime) -> Result<(), Fail> {
     prints(&rt, heap, &input, b"refused 27 at 0\n")
 }
 
-// A forecast of so many periods of one demand.
-fn level(heap: Global, costs: &[u8], periods: u64, demand: u64) -> Result<Vec<u8>, AllocError> {
-    let mut input = Vec::from_slice(heap, costs)?;
+// A forecast of so many periods of one demand, behind a line of costs.
+fn level(heap: Global, costs: &str, periods: u32, demand: u32) -> Result<String, AllocError> {
+    let mut input = String::new(heap);
+    writeln!(input, "{costs}")?;
     for period in 1..=periods {
-        push_decimal(&mut input, period)?;
-        input.push(b',')?;
-        push_decimal(&mut input, demand)?;
-        input.push(b'\n')?;
+        writeln!(input, "{period},{demand}")?;
     }
-    input.extend_from_slice(b"end\n")?;
+    writeln!(input, "end")?;
     Ok(input)
 }
 
 #[test]
 fn the_window_holds_255_periods(rt: HostRuntime) -> Result<(), Fail> {
     let heap = rt.alloc();
-    prints(&rt, heap, &level(heap, b"10,0,1\n", 255, 0)?, b"total 0\n")?;
-    prints(
-        &rt,
-        heap,
-        &level(heap, b"10,0,1\n", 256, 0)?,
-        b"refused 19 at 0\n",
-    )
-}
-
-// The line of a period that is a lot of its own.
-fn period_line(
-    out: &mut Vec<u8>,
-    word: &[u8],
-    period: u64,
-    evidence: u64,
-) -> Result<(), AllocError> {
-    out.extend_from_slice(word)?;
-    push_decimal(out, period)?;
-    out.push(b' ')?;
-    push_decimal(out, period)?;
-    out.extend_from_slice(b" 1000000 101000000000 ")?;
-    push_decimal(out, evidence)?;
-    out.extend_from_slice(b"\n")
+    let open = level(heap, "10,0,1", 255, 0)?;
+    prints(&rt, heap, open.as_bytes(), b"total 0\n")?;
+    let full = level(heap, "10,0,1", 256, 0)?;
+    prints(&rt, heap, full.as_bytes(), b"refused 19 at 0\n")
 }
 
 #[test]
 fn freezing_frees_the_window(rt: HostRuntime) -> Result<(), Fail> {
     let heap = rt.alloc();
-    let mut output = Vec::new(heap);
-    for period in 1..=299 {
-        period_line(&mut output, b"frozen ", period, period + 1)?;
+    let mut output = String::new(heap);
+    for period in 1..=299u32 {
+        let evidence = period + 1;
+        writeln!(
+            output,
+            "frozen {period} {period} 1000000 101000000000 {evidence}"
+        )?;
     }
-    period_line(&mut output, b"closing ", 300, 300)?;
-    output.extend_from_slice(b"total 30300000000000\n")?;
-    let input = level(heap, b"1000000000,100000,3000\n", 300, 1_000_000)?;
-    prints(&rt, heap, &input, &output)
+    writeln!(output, "closing 300 300 1000000 101000000000 300")?;
+    writeln!(output, "total 30300000000000")?;
+    let input = level(heap, "1000000000,100000,3000", 300, 1_000_000)?;
+    prints(&rt, heap, input.as_bytes(), output.as_bytes())
 }
 
 fn replays(
@@ -223,24 +208,20 @@ fn orders_are_refused(rt: HostRuntime) -> Result<(), Fail> {
 }
 
 fn files(rt: &impl Abort, heap: Global, input: &[u8], output: &[u8]) -> Result<(), Fail> {
-    match lot_file(heap, input)? {
-        Ok(bytes) => {
-            assert_eq!(rt; bytes.as_slice(), output);
-            Ok(())
-        },
-        Err(_) => Err(Fail::new("refused")),
-    }
+    let Ok(file) = lot_file(heap, input)? else {
+        return Err(Fail::new("refused"));
+    };
+    assert_eq!(rt; file.as_slice(), output);
+    Ok(())
 }
 
 fn files_nothing(rt: &impl Abort, heap: Global, input: &[u8], why: &[u8]) -> Result<(), Fail> {
-    match lot_file(heap, input)? {
-        Ok(_) => Err(Fail::new("not refused")),
-        Err(refusal) => {
-            let line = refusal_line(heap, refusal)?;
-            assert_eq!(rt; line.as_slice(), why);
-            Ok(())
-        }
-    }
+    let Err(refusal) = lot_file(heap, input)? else {
+        return Err(Fail::new("not refused"));
+    };
+    let line = refusal_line(heap, refusal)?;
+    assert_eq!(rt; line.as_slice(), why);
+    Ok(())
 }
 
 #[test]
