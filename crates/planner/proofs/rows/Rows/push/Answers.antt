@@ -46,9 +46,6 @@ invariant_of-self g c =
       sound = ∥∥₁_map c.args.self.now.sound (sound_grown _ _ _ _ _ (g.met.M.CostModel.lawful c.args.model.now) c.requires.small grown);
     }
 
-pub returns-then-demand-eq0 : goal.returns-then-demand-eq0
-returns-then-demand-eq0 g c = grown_by_none g (goal.at.returns-then-demand-eq0 g c).After-push_reserved
-
 pub overflow_add-own : goal.overflow_add-own
 overflow_add-own g c = omega (arith, setup_fits g (goal.at.overflow_add-own g c).After-setup, c.made_in.ensures.fits)
 
