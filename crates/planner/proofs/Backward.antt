@@ -11,7 +11,7 @@ use Rattle.theory.proofs.Laws.{last_le, least_lot}
 use Rattle.theory.proofs.Plans.{plan_none, plan_ind, plan_ordered, lot_filled}
 use Rattle.theory.proofs.Proving.{next_of_plan, next_own, after_skip}
 use Rattle.planner.specs.declared.rows.row.Span.{Span}
-use Rattle.planner.specs.Lots.{span_of, Spans, SpansIf}
+use Rattle.planner.specs.Lots.{span_of, Spans}
 use Rattle.planner.proofs.Soundness.{over_bound}
 use Rattle.planner.specs.Describing.{Window, row_after, reading, RowOf, Describes, Sound}
 
@@ -62,11 +62,6 @@ module _ (c : Case) (after n l : ℕ) (is : l ≡ last c n) where
       go (suc j) e =
           let back : l - 1 ≡ j = omega arith in
           ap (λ o. option_or o own) (at ∙ ap (λ k. option_map span_of (next after (plan c k))) back) ∙ step j e (next after (plan c j)) refl
-
--- either of two spans in the window after a period lies there
-pub spans_or : (w : Window) (a : ℕ) (r : Option Span) (s : Span) → SpansIf w a r → Spans w a s → SpansIf w a (option_or r (Some s))
-spans_or w a None s _ own = own
-spans_or w a (Some earlier) s found _ = found
 
 -- the rows at the two ends of a span differ by what its lot serves and costs
 module _ (c : Case) (w : Window) (h : Describes c w) (s : Span) (sp : Spans w w.base s) where

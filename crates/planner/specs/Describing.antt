@@ -49,6 +49,10 @@ pub record Describes (c : Case) (w : Window) : Type 0 where
       slice_index w.options k ≡ least c (w.base + k) + lot_cost c (suc (w.base + k)) (reading w)
   pub inside : w.base ≤ last c (reading w) - 1
 
+-- a fact of each case that the window describes
+abbrev pub InEachCase : Window → (Case → Type 0) → Type 0
+InEachCase w Holds = (c : Case) → Describes c w → Holds c
+
 -- no period asks for more than 1,000,000
 abbrev pub Modest : Case → Type 0
 Modest c = (i : ℕ) → c.demand_of i ≤ 1000000

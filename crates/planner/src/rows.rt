@@ -2,6 +2,7 @@
 ghost use Rattle.std.specs.Prelude.{◌+◌, ◌≤◌, vec_len, vec_capacity};
 ghost use Rattle.planner.specs.Describing.{Sound, window_from};
 
+mod asked;
 mod growth;
 mod moving;
 mod options;
@@ -17,6 +18,8 @@ pub const WINDOW: usize = 256;
 // How many periods a planner reads at most.
 pub const LONGEST: u32 = 10_000;
 
+// Contracts see the fields, and `window` reads them. A view would forget the buffer, and a refused call promises that all is
+// as it was.
 #[derive(Drop)]
 pub struct Rows {
     base: u32,

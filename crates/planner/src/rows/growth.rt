@@ -3,7 +3,8 @@ ghost use Rattle.std.specs.Prelude.{◌≡◌, ◌-◌, ◌<◌, ◌≤◌, leng
 ghost use Rattle.planner.specs.Describing.{row_after, reading, Grown};
 ghost use Rattle.planner.specs.Windows.{window, empty};
 
-use crate::rows::options::{raise, served};
+use crate::rows::asked::Asked;
+use crate::rows::options::raise;
 use crate::rows::row::{Period, Row};
 use crate::rows::{Rows, WINDOW};
 use costs::CostModel;
@@ -68,7 +69,12 @@ impl Rows {
         let base = self.base;
         let read = self.read();
         let newest = self.at(read);
-        let setup = newest.least + model.setup(read + 1).unwrap();
+        let asked = Asked {
+            period: read + 1,
+            demand,
+            model,
+        };
+        let setup = newest.least + asked.setup();
         if demand == 0 {
             self.periods.push_reserved(Period {
                 row: newest,
@@ -76,9 +82,9 @@ impl Rows {
             });
             return;
         }
-        let own = setup + served(model, demand, read + 1, read + 1);
+        let own = setup + asked.made_in(asked.period);
         let first = newest.last.saturating_sub(1) - base;
-        let choice = raise(&mut self.periods, first as usize, base, demand, own, model);
+        let choice = raise(&mut self.periods, first as usize, base, own, &asked);
         self.periods.push_reserved(Period {
             row: Row {
                 demanded: newest.demanded + u64::from(demand),

@@ -1,11 +1,11 @@
 // The plan of a horizon, read back from the rows.
 ghost use Rattle.std.specs.Prelude.{◌≡◌, ◌<◌, ◌≤◌};
 ghost use Rattle.std.specs.Option.{option_map};
-ghost use Rattle.theory.specs.Recursion.{Case, plan, lot};
+ghost use Rattle.theory.specs.Recursion.{plan, lot};
 ghost use Rattle.theory.specs.Regeneration.{next as next_lot};
 ghost use Rattle.lots.specs.Lots.{terms};
 ghost use Rattle.lots.specs.declared.lot.LotKind.TheVariants.{Frozen};
-ghost use Rattle.planner.specs.Describing.{reading, Describes};
+ghost use Rattle.planner.specs.Describing.{reading, InEachCase};
 ghost use Rattle.planner.specs.Lots.{span_of, handed, SpansIf, Spans};
 ghost use Rattle.planner.specs.Windows.{window};
 
@@ -19,7 +19,7 @@ impl Rows {
     pub fn next_span(&self, horizon: u32, after: u32) -> Option<Span>
         requires from { self.now.base ≤ after }
         requires through { horizon ≤ reading (window self.now) }
-        ensures means { (c : Case) → Describes c (window self.now) → result ≡ option_map span_of (next_lot after (plan c horizon)) }
+        ensures means { InEachCase (window self.now) (λ c. result ≡ option_map span_of (next_lot after (plan c horizon))) }
         ensures spans { SpansIf (window self.now) after result }
     {
         if horizon <= after {
@@ -41,7 +41,7 @@ impl Rows {
         requires settled { kind ≡ Frozen → span.through < reading (window self.now) }
         ensures kind { result.kind ≡ kind }
         ensures through { result.through ≡ span.through }
-        ensures means { (c : Case) → Describes c (window self.now) → terms result ≡ handed kind (reading (window self.now)) (lot c span.from span.through) }
+        ensures means { InEachCase (window self.now) (λ c. terms result ≡ handed kind (reading (window self.now)) (lot c span.from span.through)) }
     {
         let before = self.at(span.from - 1);
         let end = self.at(span.through);

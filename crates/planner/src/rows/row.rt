@@ -7,7 +7,8 @@ pub struct Row {
     pub demanded: u64,
     // The least cost of any plan for these periods.
     pub least: u64,
-    // The last setup of the plan with that cost, 0 where nothing is made.
+    // The last setup of the plan with that cost. It is 0 where nothing is made, and no `None`: the recursion of the theory
+    // counts from there, and periods are compared with it.
     pub last: u32,
 }
 

@@ -1,4 +1,4 @@
-use Rattle.std.proofs.Common.{◌≡◌, ◌+◌, ◌-◌, ◌*◌, ◌<◌, ◌≤◌, length, refl, ap, arith}
+use Rattle.std.proofs.Common.{◌≡◌, ◌+◌, ◌-◌, ◌*◌, ◌<◌, ◌≤◌, length, ap, arith}
 use Rattle.theory.specs.Recursion.{over, lot_cost, lot}
 use Rattle.planner.specs.Describing.{Window}
 use Rattle.planner.specs.Windows.{window}
@@ -8,15 +8,15 @@ use Rattle.planner.proofs.Backward.{forward, some_amount, bounded_amount, some_c
 use Rattle.planner.proofs.rows.Rows.lot.Goals as goal
 use Rattle.planner.proofs.rows.Rows.lot.Goals.{After-at-end}
 
-pub at-before-requires : goal.at-before-requires
-at-before-requires c =
+pub at-before-requires-clause-through : goal.at-before-requires-clause-through
+at-before-requires-clause-through c =
     let r = c.args.self.now in
-    omega (arith, forward (window r) r.sound c.args.span c.requires.spans, c.requires.spans.read, c.requires.spans.later)
+    omega (arith, forward (window r) r.sound c.args.span c.requires.spans, c.requires.spans.read)
 
-pub at-end-requires : goal.at-end-requires
-at-end-requires c =
+pub at-end-requires-clause-from : goal.at-end-requires-clause-from
+at-end-requires-clause-from c =
     let r = c.args.self.now in
-    omega (arith, forward (window r) r.sound c.args.span c.requires.spans, c.requires.spans.read, c.requires.spans.later)
+    omega (arith, forward (window r) r.sound c.args.span c.requires.spans, c.requires.spans.later)
 
 -- what the two rows tell, in numbers
 record Ends (c : After-at-end) : Type 0 where
@@ -69,18 +69,14 @@ invariant_of-result c =
     let f = forward w r.sound c.args.span sp in
     let read = c.read.ensures in record { from_first = omega (arith, sp.later); forward = f; read = omega (arith, sp.read); few = omega (arith, r.few, window_long r); short = omega (arith, sp.later, sp.read, r.narrow, window_long r); some = omega (arith, e.begun); bounded = omega (arith, e.bounded); affordable = omega (arith, e.affordable); settled = λ frozen. omega (arith, c.requires.settled frozen) }
 
-pub returns : goal.returns
+pub returns-clause-means : goal.returns-clause-means
 unfolding lot
-returns c = record {
-  kind = refl;
-  through = refl;
-  means = λ d h.
-      let r = c.args.self.now in
-      let w : Window = window r in
-      let s = c.args.span in
-      let amount : c.at-end.result.demanded - c.at-before.result.demanded ≡ over d.demand_of s.from s.through =
-      omega (arith, span_amount d w h s c.requires.spans, ap (λ x. x.demanded) c.at-before.ensures, ap (λ x. x.demanded) c.at-end.ensures) in
-      let cost : c.at-end.result.least - c.at-before.result.least ≡ lot_cost d s.from s.through =
-      omega (arith, span_cost d w h s c.requires.spans, ap (λ x. x.least) c.at-before.ensures, ap (λ x. x.least) c.at-end.ensures) in
-      λ i. record { kind = c.args.kind; from = s.from; through = s.through; amount = amount i; cost = cost i; evidence = c.read.ensures i };
-}
+returns-clause-means c = λ d h.
+    let r = c.args.self.now in
+    let w : Window = window r in
+    let s = c.args.span in
+    let amount : c.at-end.result.demanded - c.at-before.result.demanded ≡ over d.demand_of s.from s.through =
+    omega (arith, span_amount d w h s c.requires.spans, ap (λ x. x.demanded) c.at-before.ensures, ap (λ x. x.demanded) c.at-end.ensures) in
+    let cost : c.at-end.result.least - c.at-before.result.least ≡ lot_cost d s.from s.through =
+    omega (arith, span_cost d w h s c.requires.spans, ap (λ x. x.least) c.at-before.ensures, ap (λ x. x.least) c.at-end.ensures) in
+    λ i. record { kind = c.args.kind; from = s.from; through = s.through; amount = amount i; cost = cost i; evidence = c.read.ensures i }

@@ -1,6 +1,5 @@
 use Rattle.std.proofs.Common.{◌≡◌, suc, ◌+◌, ◌-◌, ◌*◌, ◌≤◌, [], ◌∷◌, ◌++◌, length, get_or, vec_items, sym, ap, ◌∙◌, ap₂, arith}
 use mathlib.Core.Logic.{∥∥₁_map}
-use Rattle.costs.proofs.Answered.{charge_told}
 use Rattle.planner.specs.declared.rows.row.Row.{Row}
 use Rattle.planner.specs.Describing.{Window, window_from, row_after, reading, own, rows_of, options_of, live_from, Grown}
 use Rattle.planner.specs.Windows.{window}
@@ -9,31 +8,23 @@ use Rattle.planner.proofs.Soundness.{least_fits, demanded_fits, last_fits, base_
 use Rattle.planner.proofs.Growing.{grown_idle, grown_busy, raised_from, chosen_from, pushed_behind, rows_pushed, options_pushed}
 use Rattle.planner.proofs.rows.Rows.push.Given as given
 use Rattle.planner.proofs.rows.Rows.push.Goals as goal
-use Rattle.planner.proofs.rows.Rows.push.Goals.{After-unwrap, After-served, After-saturating_sub, After-push_reserved, After-push_reserved-2}
+use Rattle.planner.proofs.rows.Rows.push.Goals.{After-setup, After-saturating_sub, After-push_reserved, After-push_reserved-2}
 
 -- the newest row, and the charge of the period after it
-newest : (g : given.Over) (c : After-unwrap g) → c.at-newest.result ≡ row_after (window c.args.self.now) (length (window c.args.self.now).rows)
+newest : (g : given.Over) (c : After-setup g) → c.at-newest.result ≡ row_after (window c.args.self.now) (length (window c.args.self.now).rows)
 newest g c = c.at-newest.ensures ∙ ap (row_after (window c.args.self.now)) (omega arith)
 
-charge : (g : given.Over) (c : After-unwrap g) → c.unwrap.result ≡ g.M.CostModel.K c.args.model.now (suc (reading (window c.args.self.now)))
-charge g c =
-    charge_told (g.M.CostModel.K c.args.model.now) (c.read-read.result + 1) _ _ c.setup.ensures c.unwrap.ensures
-    ∙ ap (g.M.CostModel.K c.args.model.now) (omega arith)
+charge : (g : given.Over) (c : After-setup g) → c.setup.result ≡ g.M.CostModel.K c.args.model.now (suc (reading (window c.args.self.now)))
+charge g c = c.setup.ensures.is ∙ ap (g.M.CostModel.K c.args.model.now) (omega arith)
 
 -- so far the sums are small
-setup_fits : (g : given.Over) (c : After-unwrap g) → c.at-newest.result.least + c.unwrap.result ≤ 10000 * 1001000000000 + 1000000000
+setup_fits : (g : given.Over) (c : After-setup g) → c.at-newest.result.least + c.setup.result ≤ 10000 * 1001000000000 + 1000000000
 setup_fits g c =
     let w : Window = window c.args.self.now in
-    omega (
-      arith,
-      charge g c,
-      (g.met.M.CostModel.lawful c.args.model.now).charge_fits (suc (reading w)) (omega arith),
-      ap (λ r. r.least) (newest g c),
-      least_fits w c.args.self.now.sound (length w.rows) (omega arith),
-    )
+    omega (arith, c.setup.ensures.fits, ap (λ r. r.least) (newest g c), least_fits w c.args.self.now.sound (length w.rows) (omega arith))
 
 pub overflow_add-setup : goal.overflow_add-setup
-overflow_add-setup g c = omega (arith, setup_fits g (goal.at.overflow_add-setup g c).After-unwrap)
+overflow_add-setup g c = omega (arith, setup_fits g (goal.at.overflow_add-setup g c).After-setup)
 
 -- a period without demand
 grown_by_none : (g : given.Over) (c : After-push_reserved g) →
@@ -41,7 +32,7 @@ grown_by_none : (g : given.Over) (c : After-push_reserved g) →
     (window_from c.args.self.now.base c.args.self.now.before (vec_items c.push_reserved.new.self))
 grown_by_none g c =
     let w : Window = window c.args.self.now in
-    let u = (goal.at.After-push_reserved g c).After-unwrap in
+    let u = (goal.at.After-push_reserved g c).After-setup in
     let new = newest g u in
     grown_idle w _ _ (window_paired c.args.self.now) _ _ _ _ c.if-demand-eq0.true (omega (arith, charge g u, ap (λ r. r.least) new))
     (rows_pushed _ _ _ c.push_reserved.ensures.items ∙ ap (λ r. w.rows ++ (r ∷ [])) new) (options_pushed _ _ _ c.push_reserved.ensures.items)
@@ -55,20 +46,17 @@ invariant_of-self g c =
       sound = ∥∥₁_map c.args.self.now.sound (sound_grown _ _ _ _ _ (g.met.M.CostModel.lawful c.args.model.now) c.requires.small grown);
     }
 
-pub returns-then-demand-eq0 : goal.returns-then-demand-eq0
-returns-then-demand-eq0 g c = grown_by_none g (goal.at.returns-then-demand-eq0 g c).After-push_reserved
-
 pub overflow_add-own : goal.overflow_add-own
-overflow_add-own g c = omega (arith, setup_fits g (goal.at.overflow_add-own g c).After-unwrap, c.served.ensures.fits)
+overflow_add-own g c = omega (arith, setup_fits g (goal.at.overflow_add-own g c).After-setup, c.made_in.ensures.fits)
 
 pub overflow_sub-first : goal.overflow_sub-first
 overflow_sub-first g c =
     let w : Window = window c.args.self.now in
-    omega (arith, ap (λ r. r.last) (newest g (goal.at.overflow_sub-first g c).After-unwrap), base_inside w c.args.self.now.sound)
+    omega (arith, ap (λ r. r.last) (newest g (goal.at.overflow_sub-first g c).After-setup), base_inside w c.args.self.now.sound)
 
 -- the walk begins with the option of the last setup
 begins : (g : given.Over) (c : After-saturating_sub g) → c.saturating_sub.result - c.args.self.now.base ≡ live_from (window c.args.self.now)
-begins g c = ap (λ n. n - c.args.self.now.base) (c.saturating_sub.ensures ∙ ap (λ r. r.last - 1) (newest g (goal.at.After-saturating_sub g c).After-unwrap))
+begins g c = ap (λ n. n - c.args.self.now.base) (c.saturating_sub.ensures ∙ ap (λ r. r.last - 1) (newest g (goal.at.After-saturating_sub g c).After-setup))
 
 pub raise-choice-requires-clause-begins : goal.raise-choice-requires-clause-begins
 raise-choice-requires-clause-begins g c =
@@ -96,7 +84,7 @@ raise-choice-requires-clause-fits g c = λ k l m.
 pub overflow_add-newest : goal.overflow_add-newest
 overflow_add-newest g c =
     let w : Window = window c.args.self.now in
-    omega (arith, ap (λ r. r.demanded) (newest g (goal.at.overflow_add-newest g c).After-unwrap), demanded_fits w c.args.self.now.sound (length w.rows) (omega arith))
+    omega (arith, ap (λ r. r.demanded) (newest g (goal.at.overflow_add-newest g c).After-setup), demanded_fits w c.args.self.now.sound (length w.rows) (omega arith))
 
 -- a period with demand
 grown_by_some : (g : given.Over) (c : After-push_reserved-2 g) →
@@ -107,7 +95,7 @@ grown_by_some g c =
     let w : Window = window r in
     let K = g.M.CostModel.K c.args.model.now in
     let V = g.M.CostModel.V c.args.model.now in
-    let u = (goal.at.After-push_reserved-2 g c).After-unwrap in
+    let u = (goal.at.After-push_reserved-2 g c).After-setup in
     let new = newest g u in
     let value = c.deref_mut.ensures.value in
     let same = ap options_of value in
@@ -117,8 +105,8 @@ grown_by_some g c =
     let kept = c.raise-choice.ensures.rows ∙ ap rows_of value in
     let filled = sym (rows_long mid) ∙ ap length kept in
     let there : c.read-read.result + 1 ≡ suc (reading w) = omega arith in
-    let paid : c.at-newest.result.least + c.unwrap.result + c.served.result ≡ own K V c.args.demand w =
-    ap₂ ◌+◌ (ap₂ ◌+◌ (ap (λ x. x.least) new) (charge g u)) (c.served.ensures.is ∙ ap₂ (λ j i. c.args.demand * V j i) there there) in
+    let paid : c.at-newest.result.least + c.setup.result + c.made_in.result ≡ own K V c.args.demand w =
+    ap₂ ◌+◌ (ap₂ ◌+◌ (ap (λ x. x.least) new) (charge g u)) (c.made_in.ensures.is ∙ ap₂ (λ j i. c.args.demand * V j i) there there) in
     let row : Row = record {
       demanded = c.at-newest.result.demanded + c.from.result;
       least = c.raise-choice.result.cost;
