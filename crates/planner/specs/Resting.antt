@@ -1,11 +1,10 @@
 -- What a closed planner hands out.
-use Rattle.std.specs.Prelude.{◌≡◌, ℕ, Some, None, Ok, Err, Option, Result}
+use Rattle.std.specs.Prelude.{ℕ, Some, None, Ok, Err, Option, Result}
 use Rattle.lots.specs.Lots.{Terms, terms}
 use Rattle.lots.specs.declared.lot.Lot.{Lot}
 use Rattle.lots.specs.declared.lot.LotKind.TheVariants.{Closing}
 use Rattle.theory.specs.Recursion as recursion
 use Rattle.theory.specs.Regeneration.{next}
-use Rattle.planner.specs.declared.closed.Closed.{Closed}
 use Rattle.planner.specs.declared.refusals.RestRefusal.{RestRefusal}
 use Rattle.planner.specs.declared.refusals.RestRefusal.TheVariants.{NoneLeft}
 use Rattle.planner.specs.Lots.{handed}
@@ -28,10 +27,3 @@ rest_told (Err r) = Err r
 abbrev pub rest_after : Result Lot RestRefusal → ℕ → ℕ
 rest_after (Ok y) after = y.through
 rest_after (Err r) after = after
-
--- a closed planner has moved to this period, and is otherwise as it was
-pub record Left {F M : Type 0} (before : Closed F M) (through : ℕ) (later : Closed F M) : Type 0 where
-  pub feed : later.feed ≡ before.feed
-  pub model : later.model ≡ before.model
-  pub rows : later.rows ≡ before.rows
-  pub after : later.after ≡ through
