@@ -1,5 +1,5 @@
 -- Taking every proved lot before the next read is eager planning.
-use Rattle.std.proofs.Common.{◌≡◌, ℕ, suc, ◌+◌, ◌-◌, ◌<◌, ◌≤◌, Bool, List, [], ◌∷◌, ◌++◌, map, length, Some, None, Option, sym, refl, ap, ◌∙◌, subst, append_assoc, append-nil, zero-add, arith}
+use Rattle.std.proofs.Common.{◌≡◌, ℕ, suc, ◌+◌, ◌-◌, ◌<◌, ◌≤◌, Bool, List, [], ◌∷◌, ◌++◌, map, length, Some, None, Option, sym, refl, ap, ◌∙◌, ap₂, subst, append_assoc, append-nil, zero-add, arith}
 use Rattle.std.proofs.lemmas.List.{map_push, length_push}
 use Rattle.feeds.specs.declared.fault.FeedFault.{FeedFault}
 use Rattle.feeds.specs.Forecasts.{Forecast}
@@ -9,8 +9,8 @@ use Rattle.lots.specs.declared.lot.LotKind.TheVariants.{Frozen}
 use Rattle.theory.specs.Eager.{Outcome, after_read, eager_in}
 use Rattle.theory.specs.Recursion.{Lot}
 use Rattle.theory.specs.Regeneration.{proves, end_of}
-use Rattle.theory.specs.Series.{Call, read_call, take_call, Handed, Refusal, none_proved, Answer, given_lot, accepted_read, refused_call, Entry, given_by, read_by, periods_read, taken, base, due_take, due_at, due_answer}
-use Rattle.theory.proofs.Eagerly.{with_lots, with_push, still, step_take, step_read}
+use Rattle.theory.specs.Series.{Call, read_call, take_call, Handed, Refusal, none_proved, Answer, given_lot, accepted_read, refused_call, Entry, given_by, read_by, periods_read, taken, base, due_take, due_at}
+use Rattle.theory.proofs.Eagerly.{with_lots, still, step_take, step_read}
 use Rattle.theory.proofs.Series.{taken_push, read_push}
 use Rattle.planner.specs.declared.refusals.ReadRefusal.{ReadRefusal}
 use Rattle.planner.specs.Answers.{handed_lot, read_refusal}
@@ -20,6 +20,7 @@ use Rattle.planner.specs.Rolling.{frozen_terms}
 use Rattle.planner.specs.Standing.{Charges, case_at}
 use Rattle.planner.specs.Tracking.{Outlook, Tracks, Leads}
 use Rattle.planner.proofs.Feeding.{never}
+use Rattle.planner.proofs.Following.{due_after}
 
 -- where the series came to so far, as the lots in the vector, is how eager planning begins
 pub record Eagerly (c : Charges) (all : Forecast) (before now : List code.Lot) (o : Outlook) : Type 0 where
@@ -32,7 +33,7 @@ pub record Eagerly (c : Charges) (all : Forecast) (before now : List code.Lot) (
 
 -- the last answer of a series that was run is the one due
 last_due : (c : Charges) (all : Forecast) (es : List (Entry FeedFault)) (call : Call) (a : Answer FeedFault) (o : Outlook) →
-    Tracks c all (es ++ (record { call = call; answer = a } ∷ [])) o → a ≡ due_answer c.K c.V all.demands all.ending es call
+    Tracks c all (es ++ (record { call = call; answer = a } ∷ [])) o → a ≡ due_after c all es call
 last_due c all es call a o tr = tr.ran es [] (record { call = call; answer = a }) refl
 
 -- what an answer says of what is proved
@@ -62,6 +63,20 @@ module _ (c : Charges) (all : Forecast) where
   }
 
   module _ (before now : List code.Lot) (o : Outlook) (e : Eagerly c all before now o) where
+    -- one call more of the series is one more of eager planning
+    begins_more : (entry : Entry FeedFault) (hs : List Handed) (t b : ℕ) → taken (e.es ++ (entry ∷ [])) ≡ taken e.es ++ hs → periods_read (e.es ++ (entry ∷ [])) ≡ t →
+        base (e.es ++ (entry ∷ [])) ≡ b → ((k : ℕ) → go (suc k) (periods_read e.es) (base e.es) ≡ with_lots hs (go k t b)) →
+        (k : ℕ) → go (length (e.es ++ (entry ∷ [])) + k) 0 0
+        ≡ with_lots (taken (e.es ++ (entry ∷ []))) (go k (periods_read (e.es ++ (entry ∷ []))) (base (e.es ++ (entry ∷ []))))
+    begins_more entry hs t b took read based step k =
+        let more : List (Entry FeedFault) = e.es ++ (entry ∷ []) in
+        let longer : length more + k ≡ length e.es + suc k = omega (arith, length_push e.es entry) in
+        let x : Outcome FeedFault = go k t b in
+        ap (λ n. go n 0 0) longer ∙ e.begins (suc k) ∙ ap (with_lots (taken e.es)) (step k)
+        ∙ ap (λ (ys : List Handed). record { lots = ys; read = x.read; base = x.base; stop = x.stop }) (sym (append_assoc (taken e.es) hs x.lots))
+        ∙ ap (λ (ys : List Handed). with_lots ys x) (sym took)
+        ∙ ap₂ (λ n m. with_lots (taken more) (go k n m)) (sym read) (sym based)
+
     -- a lot more
     pub eager_take : (y : code.Lot) (new : List code.Lot) (o' : Outlook) →
         Leads c o take_call (given_lot (handed_lot y)) o' → y.kind ≡ Frozen → new ≡ now ++ (y ∷ []) →
@@ -85,14 +100,8 @@ module _ (c : Charges) (all : Forecast) where
               ∙ ap (λ x. map terms before ++ (map frozen_terms (taken e.es) ++ (x ∷ []))) is_frozen
               ∙ ap (λ (xs : List Terms). map terms before ++ xs) (sym (map_push frozen_terms (taken e.es) (handed_lot y)))
               ∙ ap (λ (hs : List Handed). map terms before ++ map frozen_terms hs) (sym took);
-          begins = λ k.
-              let longer : length (e.es ++ (entry ∷ [])) + k ≡ length e.es + suc k = omega (arith, length_push e.es entry) in
-              ap (λ n. go n 0 0) longer ∙ e.begins (suc k)
-              ∙ ap (with_lots (taken e.es)) (step_take c.K c.V all.demands all.ending k t (base e.es) (handed_lot y) due.0 due.1)
-              ∙ with_push (taken e.es) (handed_lot y) (go k t y.through)
-              ∙ ap (λ (hs : List Handed). with_lots hs (go k t y.through)) (sym took)
-              ∙ ap (λ n. with_lots (taken (e.es ++ (entry ∷ []))) (go k n y.through)) (sym read)
-              ∙ ap (λ b. with_lots (taken (e.es ++ (entry ∷ []))) (go k (periods_read (e.es ++ (entry ∷ []))) b)) (sym based);
+          begins = begins_more entry (handed_lot y ∷ []) t y.through took read based
+              (λ k. step_take c.K c.V all.demands all.ending k t (base e.es) (handed_lot y) due.0 due.1);
           spent = omega (arith, length_push e.es entry, e.spent);
         }
 
@@ -117,13 +126,8 @@ module _ (c : Charges) (all : Forecast) where
           es = e.es ++ (entry ∷ []);
           tracks = tr;
           listed = e.listed ∙ ap (λ (hs : List Handed). map terms before ++ map frozen_terms hs) (sym took);
-          begins = λ k.
-              let longer : length (e.es ++ (entry ∷ [])) + k ≡ length e.es + suc k = omega (arith, length_push e.es entry) in
-              ap (λ n. go n 0 0) longer ∙ e.begins (suc k)
-              ∙ ap (with_lots (taken e.es)) (step_read c.K c.V all.demands all.ending k t (base e.es) (accepted_read proved) none (last_due c all e.es read_call (accepted_read proved) o' tr))
-              ∙ ap (λ (hs : List Handed). with_lots hs (go k (suc t) (base e.es))) (sym took)
-              ∙ ap (λ n. with_lots (taken (e.es ++ (entry ∷ []))) (go k n (base e.es))) (sym read)
-              ∙ ap (λ b. with_lots (taken (e.es ++ (entry ∷ []))) (go k (periods_read (e.es ++ (entry ∷ []))) b)) (sym based);
+          begins = begins_more entry [] (suc t) (base e.es) (taken_push e.es entry) read based
+              (λ k. step_read c.K c.V all.demands all.ending k t (base e.es) (accepted_read proved) none (last_due c all e.es read_call (accepted_read proved) o' tr));
           spent = omega (arith, length_push e.es entry, e.spent);
         }
 

@@ -1,5 +1,5 @@
 -- Emptying a closed planner, lot by lot.
-use Rattle.std.proofs.Common.{◌≡◌, ℕ, List, [], ◌∷◌, ◌++◌, map, Some, None, Ok, Err, Option, Result, sym, refl, ap, ◌∙◌, subst, append_assoc, append-nil}
+use Rattle.std.proofs.Common.{◌≡◌, ℕ, List, [], ◌∷◌, ◌++◌, map, Some, None, Ok, Err, Option, sym, refl, ap, ◌∙◌, subst, append_assoc, append-nil}
 use Rattle.std.proofs.lemmas.List.{map_push}
 use Rattle.lots.specs.Lots.{terms}
 use Rattle.lots.specs.declared.lot.Lot.{Lot}
@@ -12,13 +12,9 @@ use Rattle.planner.specs.declared.refusals.RestRefusal.{RestRefusal}
 use Rattle.planner.specs.Answers.{handed_lot}
 use Rattle.planner.specs.Describing.{Window, reading, Describes}
 use Rattle.planner.specs.Lots.{handed}
-use Rattle.planner.specs.Resting.{rest_of, rest_due, rest_told}
+use Rattle.planner.specs.Resting.{rest_of, TellsRest, EmptiesTo}
 use Rattle.planner.proofs.Feeding.{never}
 use Rattle.planner.proofs.Taking.{as_handed}
-
--- what a rest told is what it was due
-abbrev pub Due : Window → ℕ → Result Lot RestRefusal → Type 0
-Due w after told = (c : Case) → Describes c w → rest_told told ≡ rest_due c (reading w) after
 
 -- the lots done, with any rest behind them, are a rest from the start on
 abbrev pub Resting : Window → ℕ → ℕ → List Lot → Type 0
@@ -38,7 +34,7 @@ none t (Some z) f e = absurd (never (cc))
 
 -- one lot more
 pub rests_more : (w : Window) (start after through : ℕ) (y : Lot) (done new : List Lot) →
-    Resting w start after done → Due w after (Ok y) → through ≡ y.through → new ≡ done ++ (y ∷ []) → Resting w start through new
+    Resting w start after done → TellsRest w after (Ok y) → through ≡ y.through → new ≡ done ++ (y ∷ []) → Resting w start through new
 rests_more w start after through y done new so_far due ends listed c h tail rest =
     let now = given (reading w) (next after (plan c (reading w))) y (due c h) in
     let more = so_far c h (handed_lot y ∷ tail) (now.0, now.1, subst (λ n. Rests c (reading w) n tail) ends rest) in
@@ -49,7 +45,7 @@ rests_more w start after through y done new so_far due ends listed c h tail rest
 
 -- and no more
 pub rests_done : (w : Window) (start after : ℕ) (f : RestRefusal) (done : List Lot) → Resting w start after done →
-    Due w after (Err f) → (c : Case) → Describes c w → Rests c (reading w) start (map handed_lot done)
+    TellsRest w after (Err f) → EmptiesTo w start done
 rests_done w start after f done so_far due c h =
     subst (Rests c (reading w) start) (append-nil (map handed_lot done))
     (so_far c h [] (none (reading w) (next after (plan c (reading w))) f (due c h)))

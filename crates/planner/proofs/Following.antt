@@ -27,6 +27,10 @@ use Rattle.planner.proofs.Steps.{Meets}
 use Rattle.planner.proofs.Growth.{grown_describes}
 use Rattle.planner.proofs.Feeding.{never, next_demand, none_left}
 
+-- what a call is due after a series
+abbrev pub due_after : Charges → Forecast → List (Entry FeedFault) → Call → Answer FeedFault
+due_after c all es call = due_answer c.K c.V all.demands all.ending es call
+
 -- a span that is there is that of a lot that is there
 pub lot_behind : (o : Option Lot) (s : Span) → Some s ≡ option_map span_of o → (y : Lot) × (o ≡ Some y) × (s ≡ span_of y)
 lot_behind None s e = absurd (never (cc))
@@ -52,7 +56,7 @@ module _ (c : Charges) (all : Forecast) (es : List (Entry FeedFault)) (o : Outlo
   over_base = omega (arith, tr.read, tr.since)
 
   -- a refused call leaves everything
-  pub stays : (call : Call) (r : Refusal FeedFault) → refused_call r ≡ due_answer c.K c.V all.demands all.ending es call →
+  pub stays : (call : Call) (r : Refusal FeedFault) → refused_call r ≡ due_after c all es call →
       Tracks c all (es ++ (record { call = call; answer = refused_call r } ∷ [])) o
   unfolding read_by given_by
   stays call r is =
@@ -70,11 +74,11 @@ module _ (c : Charges) (all : Forecast) (es : List (Entry FeedFault)) (o : Outlo
 
   -- the same of an answer that means the refusal, and of a feed that tells what it told
   pub stays_so : (call : Call) (r : Refusal FeedFault) (a : Answer FeedFault) (o' : Outlook) → a ≡ refused_call r → o' ≡ o →
-      refused_call r ≡ due_answer c.K c.V all.demands all.ending es call → Tracks c all (es ++ (record { call = call; answer = a } ∷ [])) o'
+      refused_call r ≡ due_after c all es call → Tracks c all (es ++ (record { call = call; answer = a } ∷ [])) o'
   stays_so call r a o' means same is =
       subst₂ (λ x l. Tracks c all (es ++ (record { call = call; answer = x } ∷ [])) l) (sym means) (sym same) (stays call r is)
 
-  pub waits : (s : Span) → TellsProved o.window (Some s) → refused_call lot_waits ≡ due_answer c.K c.V all.demands all.ending es read_call
+  pub waits : (s : Span) → TellsProved o.window (Some s) → refused_call lot_waits ≡ due_after c all es read_call
   unfolding due_at due_read
   waits s h =
       let y = lot_behind _ s (proved_here (Some s) h) in
@@ -83,19 +87,19 @@ module _ (c : Charges) (all : Forecast) (es : List (Entry FeedFault)) (o : Outlo
   -- what a read is due where nothing is proved
   unproved : TellsProved o.window None → (a : Answer FeedFault) →
       a ≡ due_read (length all.demands) all.ending (periods_read es) (base es) None (proves (case_at c all) (base es) (suc (periods_read es))) →
-      a ≡ due_answer c.K c.V all.demands all.ending es read_call
+      a ≡ due_after c all es read_call
   unfolding due_at
   unproved h a is =
       is ∙ sym (ap (λ p. due_read (length all.demands) all.ending (periods_read es) (base es) p (proves (case_at c all) (base es) (suc (periods_read es)))) (none_behind _ (proved_here None h)))
 
-  pub full : TellsProved o.window None → 256 ≤ length o.window.rows → refused_call window_full ≡ due_answer c.K c.V all.demands all.ending es read_call
+  pub full : TellsProved o.window None → 256 ≤ length o.window.rows → refused_call window_full ≡ due_after c all es read_call
   unfolding due_read
   full h l = unproved h _ (sym (cond-true (leb 256 (periods_read es - base es)) _ _ (le-leb 256 (periods_read es - base es) (omega (arith, over_base)))))
 
   open_window : length o.window.rows < 256 → leb 256 (periods_read es - base es) ≡ false
   open_window l = lt-leb 256 (periods_read es - base es) (omega (arith, over_base))
 
-  pub limit : TellsProved o.window None → length o.window.rows < 256 → 10000 ≤ reading o.window → refused_call limit_reached ≡ due_answer c.K c.V all.demands all.ending es read_call
+  pub limit : TellsProved o.window None → length o.window.rows < 256 → 10000 ≤ reading o.window → refused_call limit_reached ≡ due_after c all es read_call
   unfolding due_read
   limit h l m =
       unproved h _ (sym (cond-false (leb 256 (periods_read es - base es)) _ _ (open_window l) ∙ cond-true (leb 10000 (periods_read es)) _ _ (le-leb 10000 (periods_read es) (omega (arith, tr.read)))))
@@ -104,7 +108,7 @@ module _ (c : Charges) (all : Forecast) (es : List (Entry FeedFault)) (o : Outlo
   under_limit l = lt-leb 10000 (periods_read es) (omega (arith, tr.read))
 
   over_end : TellsProved o.window None → length o.window.rows < 256 → reading o.window < 10000 → o.left.demands ≡ [] →
-      refused_call (told o.left.ending) ≡ due_answer c.K c.V all.demands all.ending es read_call
+      refused_call (told o.left.ending) ≡ due_after c all es read_call
   unfolding due_read
   over_end h l m none =
       let left : o.left.demands ≡ drop (periods_read es) all.demands = ap (λ f. f.demands) tr.left in
@@ -114,12 +118,12 @@ module _ (c : Charges) (all : Forecast) (es : List (Entry FeedFault)) (o : Outlo
       ∙ cond-true (leb (length all.demands) (periods_read es)) _ _ (le-leb (length all.demands) (periods_read es) (omega arith)))))
 
   pub ended : TellsProved o.window None → length o.window.rows < 256 → reading o.window < 10000 → o.left.demands ≡ [] → o.left.ending ≡ finished_feed →
-      refused_call feed_ended ≡ due_answer c.K c.V all.demands all.ending es read_call
+      refused_call feed_ended ≡ due_after c all es read_call
   unfolding told
   ended h l m none is = ap (λ x. refused_call (told x)) (sym is) ∙ over_end h l m none
 
   pub faulty : TellsProved o.window None → length o.window.rows < 256 → reading o.window < 10000 → o.left.demands ≡ [] → (f : FeedFault) → o.left.ending ≡ faulty_feed f →
-      refused_call (feed_faulty f) ≡ due_answer c.K c.V all.demands all.ending es read_call
+      refused_call (feed_faulty f) ≡ due_after c all es read_call
   unfolding told
   faulty h l m none f is = ap (λ x. refused_call (told x)) (sym is) ∙ over_end h l m none
 
@@ -140,7 +144,7 @@ module _ (c : Charges) (all : Forecast) (es : List (Entry FeedFault)) (o : Outlo
       let read_on : reading o'.window ≡ suc t = omega (arith, g.base, ap length g.rows, length_push o.window.rows g.row, tr.read) in
       let proved_now : p ≡ option_map span_of (proves k (base es) (suc t)) =
       now k described ∙ ap (λ b. option_map span_of (proves k b (reading o'.window))) (g.base ∙ tr.since) ∙ ap (λ i. option_map span_of (proves k (base es) i)) read_on in
-      let due : accepted_read now-proved ≡ due_answer c.K c.V all.demands all.ending es read_call =
+      let due : accepted_read now-proved ≡ due_after c all es read_call =
       ap accepted_read (tells ∙ some_behind _ p proved_now)
       ∙ unproved h _ (sym (cond-false (leb 256 (t - base es)) _ _ (open_window l) ∙ (cond-false (leb 10000 t) _ _ (under_limit m)
       ∙ cond-false (leb (length all.demands) t) _ _ (lt-leb (length all.demands) t next.1)))) in

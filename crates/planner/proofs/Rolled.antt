@@ -15,9 +15,10 @@ use Rattle.theory.proofs.Proving.{rest_by_lot}
 use Rattle.planner.specs.declared.refusals.ReadRefusal.{ReadRefusal}
 use Rattle.planner.specs.declared.refusals.ReadRefusal.TheVariants.{LotWaits, WindowFull, LimitReached, FeedEnded, Feed}
 use Rattle.planner.specs.Answers.{handed_lot, read_refusal}
-use Rattle.planner.specs.Describing.{Window, reading, Describes}
+use Rattle.planner.specs.Describing.{Window, reading}
 use Rattle.planner.specs.Freezing.{FrozenAs}
 use Rattle.planner.specs.Lots.{handed}
+use Rattle.planner.specs.Resting.{EmptiesTo}
 use Rattle.planner.specs.Rolling.{frozen_terms, closing_terms, stop_of, RolledOut}
 use Rattle.planner.specs.Standing.{Charges, case_at}
 
@@ -33,7 +34,7 @@ closing_terms_lem c t b (y ∷ ys) r k =
 module _ (c : Charges) (all : Forecast) (refusal : ReadRefusal) (now : List code.Lot) (w : Window) (f : FrozenAs c all [] refusal now w) where
   -- a feed that came to its end
   pub rolled_whole : refusal ≡ FeedEnded → (closing lots : List code.Lot) → lots ≡ now ++ closing →
-      ((k : Case) → Describes k w → Rests k (reading w) w.base (map handed_lot closing)) → AllByRecursion (λ y. y.kind ≡ Closing) closing →
+      EmptiesTo w w.base closing → AllByRecursion (λ y. y.kind ≡ Closing) closing →
       RolledOut c all (map terms lots) None
   rolled_whole ended closing lots joined rests kinds =
       let k : Case = case_at c all in

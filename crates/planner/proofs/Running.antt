@@ -6,7 +6,7 @@ use Rattle.std.proofs.lemmas.List.{map_push, take_more}
 use Rattle.feeds.specs.declared.fault.FeedFault.{FeedFault}
 use Rattle.feeds.specs.Forecasts.{Forecast}
 use Rattle.lots.specs.declared.lot.Lot.{Lot}
-use Rattle.theory.specs.Recursion.{Case, LawfulCosts}
+use Rattle.theory.specs.Recursion.{LawfulCosts}
 use Rattle.theory.specs.Series as series
 use Rattle.theory.specs.Series.{periods_read, base, taken, Rests}
 use Rattle.theory.specs.Regeneration.{end_of}
@@ -17,7 +17,7 @@ use Rattle.planner.specs.declared.calls.Call.{Call}
 use Rattle.planner.specs.declared.calls.Answer.{Answer}
 use Rattle.planner.specs.declared.calls.Entry.{Entry}
 use Rattle.planner.specs.Answers.{call_of, answer_of, entry_of, handed_lot, HandsOutFrozen}
-use Rattle.planner.specs.Describing.{reading, Describes}
+use Rattle.planner.specs.Resting.{EmptiesTo}
 use Rattle.planner.specs.Standing.{Charges, case_at}
 use Rattle.planner.specs.Tracking.{Outlook, Tracks, Leads}
 use Rattle.planner.specs.Windows.{empty}
@@ -61,7 +61,7 @@ running_more c all calls i entries new o o' call answer r within read f frozen l
 
 -- the whole series, and the lots that emptying handed out behind it
 pub running_all : (c : Charges) → LawfulCosts c.K c.V → (all : Forecast) (calls : List Call) (i : ℕ) (entries : List Entry) (o : Outlook) (closing : List Lot) →
-    Running c all calls i entries o → ((k : Case) → Describes k o.window → Rests k (reading o.window) o.window.base (map handed_lot closing)) →
+    Running c all calls i entries o → EmptiesTo o.window o.window.base closing →
     WholeRun c.K c.V all.demands all.ending (map entry_of entries) (map handed_lot closing)
 running_all c lawful all calls i entries o closing r rests =
     let tr = r.tracks in

@@ -10,7 +10,7 @@ use Rattle.lots.specs.declared.lot.Lot as code
 use Rattle.lots.specs.declared.lot.LotKind.TheVariants.{Frozen}
 use Rattle.theory.specs.Recursion.{Case, last, Lot, lot}
 use Rattle.theory.specs.Regeneration.{proves, Proved, end_of}
-use Rattle.theory.specs.Series.{take_call, Handed, none_proved, given_lot, refused_call, Entry, read_by, given_by, periods_read, taken, lots, base, due_take, due_at, due_answer}
+use Rattle.theory.specs.Series.{take_call, Handed, none_proved, given_lot, refused_call, Entry, read_by, given_by, periods_read, taken, lots, base, due_take, due_at}
 use Rattle.theory.proofs.Laws.{last_le}
 use Rattle.theory.proofs.Kept.{end_push}
 use Rattle.theory.proofs.Proving.{next_own, proves_sound, proved_ends}
@@ -23,7 +23,7 @@ use Rattle.planner.specs.Proving.{TellsProved}
 use Rattle.planner.specs.Standing.{Charges, case_at}
 use Rattle.planner.specs.Tracking.{Outlook, Tracks, beyond}
 use Rattle.planner.proofs.Backward.{last_is}
-use Rattle.planner.proofs.Following.{lot_behind, none_behind, proves_here, proved_here}
+use Rattle.planner.proofs.Following.{due_after, lot_behind, none_behind, proves_here, proved_here}
 use Rattle.planner.proofs.Moving.{moved_describes}
 
 -- what a case says of the lot whose span is told
@@ -92,7 +92,7 @@ abbrev pub as_handed : Terms → Handed
 as_handed t = record { lot = record { from = t.from; through = t.through; amount = t.amount; costs = t.cost }; evidence = t.evidence }
 
 module _ (c : Charges) (all : Forecast) (es : List (Entry FeedFault)) (o : Outlook) (tr : Tracks c all es o) where
-  pub untaken : TellsProved o.window None → refused_call none_proved ≡ due_answer c.K c.V all.demands all.ending es take_call
+  pub untaken : TellsProved o.window None → refused_call none_proved ≡ due_after c all es take_call
   unfolding due_at due_take
   untaken h = sym (ap (due_take (periods_read es)) (none_behind _ (proved_here c all es o tr None h)))
 
@@ -110,7 +110,7 @@ module _ (c : Charges) (all : Forecast) (es : List (Entry FeedFault)) (o : Outlo
       let given : handed_lot y ≡ record { lot = z; evidence = t } =
       ap as_handed (is k h) ∙ ap (λ n. record { lot = z; evidence = n }) tr.read in
       let there : proves k (base es) t ≡ Some z = sym (proves_here c all es o tr) ∙ proved_lot k w h s told in
-      let due : given_lot (handed_lot y) ≡ due_answer c.K c.V all.demands all.ending es take_call = ap given_lot given ∙ sym (ap (due_take t) there) in
+      let due : given_lot (handed_lot y) ≡ due_after c all es take_call = ap given_lot given ∙ sym (ap (due_take t) there) in
       let same : periods_read (es ++ (e ∷ [])) ≡ t = omega (arith, read_push es e) in
       let kept : taken (es ++ (e ∷ [])) ≡ taken es ++ (handed_lot y ∷ []) = taken_push es e in
       let onward : w.base ≤ s.through = omega (arith, starts k w h s told, goes_forward k w h s told) in

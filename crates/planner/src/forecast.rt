@@ -29,16 +29,17 @@ pub fn plan_forecast<F: Feed + Drop, M: CostModel + Drop>(
 {
     let mut planner = Planner::open(heap, feed, model)?;
     let mut lots = Vec::new(heap);
-    let refusal = freeze_all(&mut planner, &mut lots)?;
-    if let ReadRefusal::FeedEnded = refusal {
-        let mut closing = planner.close().empty(heap)?;
-        lots.append(&mut closing)?;
-        return Ok(Planned { lots, stop: None });
+    match freeze_all(&mut planner, &mut lots)? {
+        ReadRefusal::FeedEnded => {
+            let mut closing = planner.close().empty(heap)?;
+            lots.append(&mut closing)?;
+            Ok(Planned { lots, stop: None })
+        }
+        refusal => Ok(Planned {
+            lots,
+            stop: Some(refusal),
+        }),
     }
-    Ok(Planned {
-        lots,
-        stop: Some(refusal),
-    })
 }
 
 // Reads and takes until a read is refused, and tells why.

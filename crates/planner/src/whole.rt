@@ -19,7 +19,7 @@ pub fn cheapest_plan<F: Feed + Drop, M: CostModel>(
     ensures { PlannedAs (whole_plan (charges M.CostModel model.now) (forecast F.Feed feed)) result }
 {
     let mut rows = Rows::new(heap)?;
-    for _ in 0..WINDOW {
+    while rows.len() < WINDOW {
         let Some(demand) = feed.next()? else {
             return Ok(Closed::new(feed, model, rows).empty(heap)?);
         };

@@ -1,6 +1,6 @@
 // Opening a planner and reading into it.
 ghost use Rattle.std.specs.Prelude.{◌≡◌, ◌≤◌, suc, IfOk, IfErr, OnErr, OnOk};
-ghost use Rattle.theory.specs.Series.{read_call};
+ghost use Rattle.theory.specs.Series.{period_limit, read_call};
 ghost use Rattle.planner.specs.Answers.{read_answer};
 ghost use Rattle.planner.specs.Describing.{reading};
 ghost use Rattle.planner.specs.Tracking.{Follows};
@@ -35,7 +35,7 @@ impl<F: Feed, M: CostModel> Planner<F, M> {
     // Asks the feed for one more period; the answer says if some lot has become certain.
     pub fn read(&mut self) -> Result<bool, ReadRefusal>
         ensures follows { Follows F.Feed M.CostModel self.old read_call (read_answer result) self.new }
-        ensures onward { OnOk result ((self.new.window.base ≡ self.old.window.base) × (reading self.new.window ≡ suc (reading self.old.window)) × (reading self.new.window ≤ 10000)) }
+        ensures onward { OnOk result ((self.new.window.base ≡ self.old.window.base) × (reading self.new.window ≡ suc (reading self.old.window)) × (reading self.new.window ≤ period_limit)) }
         ensures model { self.new.model ≡ self.old.model }
         ensures refused { OnErr result (self.new ≡ self.old) }
     {

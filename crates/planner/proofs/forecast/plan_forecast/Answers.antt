@@ -15,11 +15,11 @@ frozen g c =
     (rw (c.in_ok-planner.ensures.made, c.new-lots.ensures.items) at c.in_ok-refusal.ensures) (forecast g.F.Feed c.args.feed)
     (tracks_none (charges g.M.CostModel c.args.model) (forecast g.F.Feed c.args.feed))
 
-pub returns-in-FeedEnded : goal.returns-in-FeedEnded
-returns-in-FeedEnded g c =
-    let emptied = c.in_ok-closing.ensures in
-    let joined = chosen _ _ _ _ c.append.ensures.items (ap is_ok c.in_ok-append.was) in
-    rolled_whole _ _ _ _ _ (frozen g (goal.at.returns-in-FeedEnded g c).In_ok-refusal) c.in-FeedEnded.is _ _ joined (rw c.close.ensures at emptied.rests) emptied.closing
+pub returns-in_ok-append-in-FeedEnded : goal.returns-in_ok-append-in-FeedEnded
+returns-in_ok-append-in-FeedEnded g c =
+    let emptied = c.in_ok-closing-in-FeedEnded.ensures in
+    let joined = chosen _ _ _ _ c.append.ensures.items (ap is_ok c.in_ok-append-in-FeedEnded.was) in
+    rolled_whole _ _ _ _ _ (frozen g (goal.at.returns-in_ok-append-in-FeedEnded g c).In_ok-refusal) c.in-FeedEnded.is _ _ joined (rw c.close.ensures at emptied.rests) emptied.closing
 
-pub returns : goal.returns
-returns g c = rolled_part _ _ _ _ _ (frozen g (goal.at.returns g c).In_ok-refusal) c.in_default.not-FeedEnded
+pub returns-in_default : goal.returns-in_default
+returns-in_default g c = rolled_part _ _ _ _ _ (frozen g (goal.at.returns-in_default g c).In_ok-refusal) c.in_default.not-FeedEnded

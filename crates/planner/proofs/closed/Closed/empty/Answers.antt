@@ -3,7 +3,8 @@ use Rattle.std.specs.List.{AllByRecursion}
 use Rattle.std.proofs.ResultArms.{chosen}
 use Rattle.std.proofs.slice.Lists.{all_by_recursion_push}
 use Rattle.lots.specs.declared.lot.LotKind.TheVariants.{Closing}
-use Rattle.planner.proofs.Emptied.{Due, rests_more, rests_done}
+use Rattle.planner.specs.Resting.{TellsRest}
+use Rattle.planner.proofs.Emptied.{rests_more, rests_done}
 use Rattle.planner.proofs.closed.Closed.empty.Goals as goal
 
 pub loop-lot-preserved : goal.loop-lot-preserved
@@ -12,7 +13,7 @@ loop-lot-preserved g c =
     let told = c.in-Ok.ensures in
     let same = c.loop-lot.invariant.0 in (
       ap (λ p. p.window) told.left ∙ same,
-      rests_more _ _ _ _ c.in-Ok.lot _ _ c.loop-lot.invariant.1 (subst (λ w. Due w c.loop-lot.self.after (Ok c.in-Ok.lot)) same told.due)
+      rests_more _ _ _ _ c.in-Ok.lot _ _ c.loop-lot.invariant.1 (subst (λ w. TellsRest w c.loop-lot.self.after (Ok c.in-Ok.lot)) same told.due)
           (ap (λ p. p.after) told.left) pushed,
       subst (AllByRecursion (λ y. y.kind ≡ Closing)) (sym pushed) (all_by_recursion_push _ _ _ c.loop-lot.invariant.2 told.closing),
     )
@@ -20,6 +21,6 @@ loop-lot-preserved g c =
 pub returns : goal.returns
 returns g c = record {
   rests = rests_done _ _ _ c.in_default.field-0 _ c.loop-lot.invariant.1
-      (subst (λ w. Due w c.loop-lot.self.after (Err c.in_default.field-0)) c.loop-lot.invariant.0 c.in_default.ensures.due);
+      (subst (λ w. TellsRest w c.loop-lot.self.after (Err c.in_default.field-0)) c.loop-lot.invariant.0 c.in_default.ensures.due);
   closing = c.loop-lot.invariant.2;
 }
