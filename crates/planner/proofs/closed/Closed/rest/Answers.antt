@@ -16,17 +16,22 @@ invariant_of-self g c =
     let sp = c.in-Some.ensures.spans in
     omega (arith, forward (window r) r.sound _ (spans_base (window r) _ _ c.self.invariant sp), sp.later, c.self.invariant)
 
-pub returns : goal.returns
-returns g c =
+pub returns-clause-due : goal.returns-clause-due
+returns-clause-due g c =
+    let r = c.self.inside.rows in
+    rw (← c.self.view_is)
+    (λ d h.
+    let found = c.in-Some.ensures.means d h ∙ ap (λ n. option_map span_of (next c.self.inside.after (plan d n))) c.read.ensures in
+    let y = next_lot d _ _ _ found in
+    ap Ok (c.lot.ensures.means d h ∙ ap (handed Closing (reading (window r))) (sym y.2)) ∙ sym (ap (rest_of (reading (window r))) y.1))
+
+pub returns-clause-onward : goal.returns-clause-onward
+returns-clause-onward g c =
     let r = c.self.inside.rows in
     let sp = c.in-Some.ensures.spans in
     let ahead = forward (window r) r.sound _ (spans_base (window r) _ _ c.self.invariant sp) in
-    rw (← c.self.view_is) (record {
-      due = λ d h.
-          let found = c.in-Some.ensures.means d h ∙ ap (λ n. option_map span_of (next c.self.inside.after (plan d n))) c.read.ensures in
-          let y = next_lot d _ _ _ found in
-          ap Ok (c.lot.ensures.means d h ∙ ap (handed Closing (reading (window r))) (sym y.2)) ∙ sym (ap (rest_of (reading (window r))) y.1);
-      closing = c.lot.ensures.kind;
-      onward = (omega (arith, ahead, sp.later, c.lot.ensures.through), omega (arith, sp.read, c.lot.ensures.through));
-      left = ap (λ n. record { feed = c.self.inside.feed; model = c.self.inside.model; window = window r; after = n }) (sym c.lot.ensures.through);
-    })
+    rw (← c.self.view_is) (omega (arith, ahead, sp.later, c.lot.ensures.through), omega (arith, sp.read, c.lot.ensures.through))
+
+pub returns-clause-left : goal.returns-clause-left
+returns-clause-left g c = rw (← c.self.view_is)
+    (ap (λ n. record { feed = c.self.inside.feed; model = c.self.inside.model; window = window c.self.inside.rows; after = n }) (sym c.lot.ensures.through))

@@ -1,4 +1,4 @@
-use Rattle.std.proofs.Common.{Some, sym, refl, ap, ◌∙◌, subst, arith}
+use Rattle.std.proofs.Common.{Some, sym, ap, ◌∙◌, subst, arith}
 use Rattle.theory.specs.Series.{take_call}
 use Rattle.planner.specs.Proving.{TellsProved}
 use Rattle.planner.specs.Windows.{window}
@@ -12,16 +12,10 @@ use Rattle.planner.proofs.planner.Planner.take.Goals.{In-Some}
 told : (g : given.Over) (c : In-Some g) → TellsProved (window c.self.inside.rows) (Some c.in-Some.span)
 told g c = subst (TellsProved (window c.self.inside.rows)) c.in-Some.is c.self.invariant
 
-pub returns-in_default : goal.returns-in_default
-returns-in_default g c = rw (← c.self.view_is) (record {
-  follows = λ all es tr.
-      stays _ all es _ tr take_call _ (untaken _ all es _ tr (subst (TellsProved (window c.self.inside.rows)) c.in_default.is c.self.invariant));
-  onward = tt;
-  frozen = tt;
-  feed = refl;
-  model = refl;
-  refused = refl;
-})
+pub returns-in_default-clause-follows : goal.returns-in_default-clause-follows
+returns-in_default-clause-follows g c = rw (← c.self.view_is)
+    (λ all es tr.
+    stays _ all es _ tr take_call _ (untaken _ all es _ tr (subst (TellsProved (window c.self.inside.rows)) c.in_default.is c.self.invariant)))
 
 pub lot-lot-requires : goal.lot-lot-requires
 lot-lot-requires g c =
@@ -35,20 +29,17 @@ move_base-requires g c =
     let t = told g (goal.at.move_base-requires g c).In-Some in
     record { onward = proved_onward (window r) r.sound _ t; inside = proved_inside (window r) r.sound _ t }
 
-pub returns : goal.returns
-returns g c =
+pub returns-clause-follows : goal.returns-clause-follows
+returns-clause-follows g c = rw (← c.self.view_is)
+    (λ all es tr. takes _ all es _ tr _ (told g (goal.at.returns-clause-follows g c).In-Some) c.lot-lot.result c.lot-lot.ensures.means _ c.move_base.ensures)
+
+pub returns-clause-onward : goal.returns-clause-onward
+returns-clause-onward g c =
     let r = c.self.inside.rows in
-    let t = told g (goal.at.returns g c).In-Some in
+    let t = told g (goal.at.returns-clause-onward g c).In-Some in
     let through = c.lot-lot.ensures.through in
-    rw (← c.self.view_is) (record {
-      follows = λ all es tr. takes _ all es _ tr _ t c.lot-lot.result c.lot-lot.ensures.means _ c.move_base.ensures;
-      onward = (
-        ap (λ w. w.base) c.move_base.ensures ∙ sym through,
-        omega (arith, proved_strictly (window r) r.sound _ t, through),
-        moved_reads (window r) r.sound _ t _ c.move_base.ensures,
-      );
-      frozen = c.lot-lot.ensures.kind;
-      feed = refl;
-      model = refl;
-      refused = tt;
-    })
+    rw (← c.self.view_is) (
+      ap (λ w. w.base) c.move_base.ensures ∙ sym through,
+      omega (arith, proved_strictly (window r) r.sound _ t, through),
+      moved_reads (window r) r.sound _ t _ c.move_base.ensures,
+    )
