@@ -29,6 +29,3 @@ returns-clause-law g c =
       frozen = r.frozen;
       closing = emptied.closing;
     }
-
-pub returns-clause-due : goal.returns-clause-due
-returns-clause-due g c = rw c.in_ok-planner.ensures.made at c.loop-call.invariant.1.tracks.ran

@@ -31,7 +31,3 @@ returns-clause-onward g c =
     let sp = c.in-Some.ensures.spans in
     let ahead = forward (window r) r.sound _ (spans_base (window r) _ _ c.self.invariant sp) in
     rw (← c.self.view_is) (omega (arith, ahead, sp.later, c.lot.ensures.through), omega (arith, sp.read, c.lot.ensures.through))
-
-pub returns-clause-left : goal.returns-clause-left
-returns-clause-left g c = rw (← c.self.view_is)
-    (ap (λ n. record { feed = c.self.inside.feed; model = c.self.inside.model; window = window c.self.inside.rows; after = n }) (sym c.lot.ensures.through))
