@@ -1,4 +1,5 @@
 // A whole forecast planned at once.
+ghost use Rattle.planner.specs.Standing.{charges, forecast};
 ghost use Rattle.planner.specs.Whole.{whole_plan, PlannedAs};
 
 use crate::closed::Closed;
@@ -15,10 +16,10 @@ pub fn cheapest_plan<F: Feed + Drop, M: CostModel>(
     mut feed: F,
     model: &M,
 ) -> Result<Vec<Lot>, PlanRefusal>
-    ensures { PlannedAs (whole_plan (M.CostModel.K model.now) (M.CostModel.V model.now) (F.Feed.demands feed) (F.Feed.ending feed)) result }
+    ensures { PlannedAs (whole_plan (charges M.CostModel model.now) (forecast F.Feed feed)) result }
 {
     let mut rows = Rows::new(heap)?;
-    for _ in 0..WINDOW {
+    while rows.len() < WINDOW {
         let Some(demand) = feed.next()? else {
             return Ok(Closed::new(feed, model, rows).empty(heap)?);
         };
