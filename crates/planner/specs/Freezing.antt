@@ -13,6 +13,7 @@ use Rattle.planner.specs.Describing.{Window, reading, Describes}
 use Rattle.planner.specs.Rolling.{frozen_terms}
 use Rattle.planner.specs.Standing.{Standing, Charges, charges, case_at}
 use Rattle.planner.specs.Tracking.{Tracks, outlook}
+use Rattle.planner.specs.Windows.{window}
 
 -- the lots joined those before, as eager planning takes them, and it stops here with this refusal
 pub record FrozenAs (c : Charges) (all : Forecast) (before : List Lot) (refusal : ReadRefusal) (now : List Lot) (w : Window) : Type 0 where
@@ -24,4 +25,4 @@ pub record FrozenAs (c : Charges) (all : Forecast) (before : List Lot) (refusal 
 -- the same for every forecast that the planner may have begun with, if nothing was called yet
 abbrev pub FrozenAll : {F M : Type 0} → feeds.Ghosts F → costs.Ghosts M → Standing F M → List Lot → ReadRefusal → List Lot → Standing F M → Type 0
 FrozenAll f m p before refusal now q =
-    (all : Forecast) → Tracks (charges m p.model) all [] (outlook f p) → FrozenAs (charges m p.model) all before refusal now q.window
+    (all : Forecast) → Tracks (charges m p.model) all [] (outlook f p) → FrozenAs (charges m p.model) all before refusal now (window q.rows)

@@ -4,21 +4,21 @@ use Rattle.costs.specs.declared.model.CostModel as costs
 use Rattle.feeds.specs.declared.feed.Feed as feeds
 use Rattle.feeds.specs.Forecasts.{Forecast}
 use Rattle.theory.specs.Recursion.{Case, case_of}
+use Rattle.planner.specs.declared.rows.Rows.{Rows}
 use Rattle.planner.specs.declared.rows.row.Span.{Span}
-use Rattle.planner.specs.Describing.{Window}
 
--- what a planner is to its callers: its feed, its cost model, its window of the periods read, and the span of the lot that is proved now, if any
+-- what a planner is to its callers: its feed, its cost model, its rows of the periods read, and the span of the lot that is proved now, if any
 pub record Standing (F M : Type 0) : Type 0 where
   pub feed : F
   pub model : M
-  pub window : Window
+  pub rows : Rows
   pub proved : Option Span
 
--- what is left when a planner is closed: feed, model and window, and the end of the last lot handed out
+-- what is left when a planner is closed: feed, model and rows, and the end of the last lot handed out
 pub record Leaving (F M : Type 0) : Type 0 where
   pub feed : F
   pub model : M
-  pub window : Window
+  pub rows : Rows
   pub after : ℕ
 
 -- what is planned at: the setup charges K and the prices V

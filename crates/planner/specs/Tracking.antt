@@ -7,6 +7,7 @@ use Rattle.feeds.specs.Forecasts.{Forecast}
 use Rattle.theory.specs.Series.{Call, Answer, Entry, Ran, periods_read, base}
 use Rattle.planner.specs.Describing.{Window, reading, Describes}
 use Rattle.planner.specs.Standing.{Standing, Charges, charges, forecast, case_at}
+use Rattle.planner.specs.Windows.{window}
 
 -- what a planner has read, and what is still to come
 pub record Outlook : Type 0 where
@@ -15,7 +16,7 @@ pub record Outlook : Type 0 where
 
 -- the outlook of a planner over a feed
 abbrev pub outlook : {F M : Type 0} → feeds.Ghosts F → Standing F M → Outlook
-outlook f p = record { window = p.window; left = forecast f p.feed }
+outlook f p = record { window = window p.rows; left = forecast f p.feed }
 
 -- a forecast without its first t periods
 abbrev pub beyond : ℕ → Forecast → Forecast

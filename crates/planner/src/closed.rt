@@ -17,11 +17,10 @@ pub struct Closed<F, M> {
 impl<F, M> Model for Closed<F, M> {
     ghost use Rattle.std.specs.Prelude.{◌≤◌};
     ghost use Rattle.planner.specs.Standing.{Leaving};
-    ghost use Rattle.planner.specs.Windows.{window};
 
     ghost Value = { Leaving F M };
 
-    ghost view = { λ p. record { feed = p.feed; model = p.model; window = window p.rows; after = p.after } };
+    ghost view = { λ p. record { feed = p.feed; model = p.model; rows = p.rows; after = p.after } };
 
     ghost invariant = { λ p. p.rows.base ≤ p.after };
 }

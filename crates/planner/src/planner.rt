@@ -25,7 +25,7 @@ impl<F, M> Model for Planner<F, M> {
 
     ghost Value = { Standing F M };
 
-    ghost view = { λ p. record { feed = p.feed; model = p.model; window = window p.rows; proved = p.proved } };
+    ghost view = { λ p. record { feed = p.feed; model = p.model; rows = p.rows; proved = p.proved } };
 
     ghost invariant = { λ p. TellsProved (window p.rows) p.proved };
 }

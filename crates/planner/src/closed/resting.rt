@@ -15,7 +15,7 @@ use std::alloc::{AllocError, Global};
 impl<F, M> Closed<F, M> {
     // What is left of the rows' plan is all that is handed out.
     pub(crate) fn new(feed: F, model: M, rows: Rows) -> Closed<F, M>
-        ensures { result ≡ record { feed = feed; model = model; window = window rows; after = rows.base } }
+        ensures { result ≡ record { feed = feed; model = model; rows = rows; after = rows.base } }
     {
         let after = rows.base();
         Closed {
@@ -28,9 +28,9 @@ impl<F, M> Closed<F, M> {
 
     // Hands out, as closing, the next lot of the plan of all periods read.
     pub fn rest(&mut self) -> Result<Lot, RestRefusal>
-        ensures due { TellsRest self.old.window self.old.after result }
+        ensures due { TellsRest (window self.old.rows) self.old.after result }
         ensures closing { IfOk result (λ y. y.kind ≡ Closing) }
-        ensures onward { IfOk result (λ y. (self.old.after < y.through) × (y.through ≤ reading self.old.window)) }
+        ensures onward { IfOk result (λ y. (self.old.after < y.through) × (y.through ≤ reading (window self.old.rows))) }
         ensures left { self.new ≡ record self.old { after = rest_after result self.old.after } }
     {
         let Some(span) = self.rows.next_span(self.rows.read(), self.after) else {
@@ -42,7 +42,7 @@ impl<F, M> Closed<F, M> {
 
     // Hands out all that is left.
     pub fn empty(&mut self, heap: Global) -> Result<Vec<Lot>, AllocError>
-        ensures rests { IfOk result (λ v. EmptiesTo self.old.window self.old.after v.items) }
+        ensures rests { IfOk result (λ v. EmptiesTo (window self.old.rows) self.old.after v.items) }
         ensures closing { IfOk result (λ v. AllByRecursion (λ y. y.kind ≡ Closing) v.items) }
     {
         let mut lots = Vec::new(heap);

@@ -7,7 +7,7 @@ use crate::planner::Planner;
 impl<F, M> Planner<F, M> {
     // No more is read: what is left of the plan can be handed out.
     pub fn close(self) -> Closed<F, M>
-        ensures { result ≡ record { feed = self.feed; model = self.model; window = self.window; after = self.window.base } }
+        ensures { result ≡ record { feed = self.feed; model = self.model; rows = self.rows; after = self.rows.base } }
     {
         let Planner {
             feed,

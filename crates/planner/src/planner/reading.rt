@@ -4,7 +4,7 @@ ghost use Rattle.theory.specs.Series.{period_limit, read_call};
 ghost use Rattle.planner.specs.Answers.{read_answer};
 ghost use Rattle.planner.specs.Describing.{reading};
 ghost use Rattle.planner.specs.Tracking.{Follows};
-ghost use Rattle.planner.specs.Windows.{empty};
+ghost use Rattle.planner.specs.Windows.{window, empty};
 
 use crate::planner::Planner;
 use crate::refusals::ReadRefusal;
@@ -16,7 +16,7 @@ use std::alloc::{AllocFailed, Global};
 impl<F: Feed, M: CostModel> Planner<F, M> {
     // A planner that has read nothing yet; where memory does not suffice, feed and model come back.
     pub fn open(heap: Global, feed: F, model: M) -> Result<Planner<F, M>, AllocFailed<(F, M)>>
-        ensures made { IfOk result (λ p. p ≡ record { feed = feed; model = model; window = empty; proved = None }) }
+        ensures made { IfOk result (λ p. (p.feed ≡ feed) × (p.model ≡ model) × (window p.rows ≡ empty) × (p.proved ≡ None)) }
         ensures refused { IfErr result (λ y. y.value ≡ (feed, model)) }
     {
         let Ok(rows) = Rows::new(heap) else {
@@ -35,7 +35,7 @@ impl<F: Feed, M: CostModel> Planner<F, M> {
     // Asks the feed for one more period; the answer says if some lot has become certain.
     pub fn read(&mut self) -> Result<bool, ReadRefusal>
         ensures follows { Follows F.Feed M.CostModel self.old read_call (read_answer result) self.new }
-        ensures onward { OnOk result ((self.new.window.base ≡ self.old.window.base) × (reading self.new.window ≡ suc (reading self.old.window)) × (reading self.new.window ≤ period_limit)) }
+        ensures onward { OnOk result ((self.new.rows.base ≡ self.old.rows.base) × (reading (window self.new.rows) ≡ suc (reading (window self.old.rows))) × (reading (window self.new.rows) ≤ period_limit)) }
         ensures model { self.new.model ≡ self.old.model }
         ensures refused { OnErr result (self.new ≡ self.old) }
     {

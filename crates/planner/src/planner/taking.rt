@@ -5,6 +5,7 @@ ghost use Rattle.lots.specs.declared.lot.LotKind.TheVariants.{Frozen};
 ghost use Rattle.planner.specs.Answers.{take_answer};
 ghost use Rattle.planner.specs.Describing.{reading};
 ghost use Rattle.planner.specs.Tracking.{Follows};
+ghost use Rattle.planner.specs.Windows.{window};
 
 use crate::planner::Planner;
 use crate::refusals::TakeRefusal;
@@ -16,7 +17,7 @@ impl<F: Feed, M: CostModel> Planner<F, M> {
     // Gives away the lot that has become certain and makes its end the base. Another one may be certain at once.
     pub fn take(&mut self) -> Result<Lot, TakeRefusal>
         ensures follows { Follows F.Feed M.CostModel self.old take_call (take_answer result) self.new }
-        ensures onward { IfOk result (λ y. (self.new.window.base ≡ y.through) × (self.old.window.base < y.through) × (reading self.new.window ≡ reading self.old.window)) }
+        ensures onward { IfOk result (λ y. (self.new.rows.base ≡ y.through) × (self.old.rows.base < y.through) × (reading (window self.new.rows) ≡ reading (window self.old.rows))) }
         ensures frozen { IfOk result (λ y. y.kind ≡ Frozen) }
         ensures feed { self.new.feed ≡ self.old.feed }
         ensures model { self.new.model ≡ self.old.model }

@@ -2,6 +2,7 @@ use Rattle.std.proofs.Common.{suc, is_ok, refl, ap, ◌∙◌}
 use Rattle.std.proofs.ResultArms.{chosen}
 use Rattle.planner.specs.Describing.{reading}
 use Rattle.planner.specs.Standing.{charges}
+use Rattle.planner.specs.Windows.{window}
 use Rattle.planner.proofs.Following.{leads_as, take_refused}
 use Rattle.planner.proofs.Eagerly.{eager_start, eager_take, eager_none, eager_read, eager_stop}
 use Rattle.planner.proofs.forecast.freeze_all.Goals as goal
@@ -34,7 +35,7 @@ loop-lot-preserved g c =
           _ _
           (leads_as _ _ _ _ _ _ _ (ap (charges g.M.CostModel) same) refl
           (rw untaken.refused at read.follows))
-          (read.onward.0 ∙ ap (λ p. p.window.base) untaken.refused) (read.onward.1 ∙ ap (λ p. suc (reading p.window)) untaken.refused) read.onward.2,
+          (read.onward.0 ∙ ap (λ p. p.rows.base) untaken.refused) (read.onward.1 ∙ ap (λ p. suc (reading (window p.rows))) untaken.refused) read.onward.2,
     )
 
 pub returns-in-Err-read : goal.returns-in-Err-read
@@ -48,4 +49,4 @@ returns-in-Err-read g c all tr =
     c.in-Err-read.refusal _
     (leads_as _ _ _ _ _ _ _ (ap (charges g.M.CostModel) same) refl
     (rw untaken.refused at read.follows))
-    (ap (λ p. p.window) (read.refused ∙ untaken.refused))
+    (ap (λ p. window p.rows) (read.refused ∙ untaken.refused))

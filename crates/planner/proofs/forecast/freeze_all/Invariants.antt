@@ -3,6 +3,7 @@ use Rattle.feeds.specs.Forecasts.{Forecast}
 use Rattle.planner.specs.Describing.{reading}
 use Rattle.planner.specs.Standing.{charges}
 use Rattle.planner.specs.Tracking.{Tracks, outlook}
+use Rattle.planner.specs.Windows.{window}
 use Rattle.planner.proofs.Eagerly.{Eagerly}
 use Rattle.planner.proofs.forecast.freeze_all.Given as goal
 
@@ -14,4 +15,4 @@ invariant-loop-lot g l =
 
 -- two calls for each period to be read, and one for each to be frozen
 abbrev pub decreases-loop-lot : goal.decreases-loop-lot
-decreases-loop-lot g l = 2 * (10000 - reading l.planner.window) + (reading l.planner.window - l.planner.window.base)
+decreases-loop-lot g l = 2 * (10000 - reading (window l.planner.rows)) + (reading (window l.planner.rows) - l.planner.rows.base)

@@ -2,6 +2,7 @@ use Rattle.std.proofs.Common.{[], is_ok, vec_items, ap}
 use Rattle.std.proofs.ResultArms.{chosen}
 use Rattle.planner.specs.Freezing.{FrozenAs}
 use Rattle.planner.specs.Standing.{charges, forecast}
+use Rattle.planner.specs.Windows.{window}
 use Rattle.planner.proofs.Rolled.{rolled_whole, rolled_part}
 use Rattle.planner.proofs.Running.{tracks_none}
 use Rattle.planner.proofs.forecast.plan_forecast.Given as given
@@ -10,9 +11,10 @@ use Rattle.planner.proofs.forecast.plan_forecast.Goals.{In_ok-refusal}
 
 -- what was frozen of the feed that the planner was opened with
 frozen : (g : given.Over) (c : In_ok-refusal g) →
-    FrozenAs (charges g.M.CostModel c.args.model) (forecast g.F.Feed c.args.feed) [] c.in_ok-refusal.refusal (vec_items c.freeze_all.new.lots) c.freeze_all.new.planner.window
+    FrozenAs (charges g.M.CostModel c.args.model) (forecast g.F.Feed c.args.feed) [] c.in_ok-refusal.refusal (vec_items c.freeze_all.new.lots) (window c.freeze_all.new.planner.rows)
 frozen g c =
-    (rw (c.in_ok-planner.ensures.made, c.new-lots.ensures.items) at c.in_ok-refusal.ensures) (forecast g.F.Feed c.args.feed)
+    let made = c.in_ok-planner.ensures.made in
+    (rw (made.0, made.1, made.2, c.new-lots.ensures.items) at c.in_ok-refusal.ensures) (forecast g.F.Feed c.args.feed)
     (tracks_none (charges g.M.CostModel c.args.model) (forecast g.F.Feed c.args.feed))
 
 pub returns-in_ok-append-in-FeedEnded : goal.returns-in_ok-append-in-FeedEnded

@@ -7,7 +7,9 @@ use Rattle.planner.proofs.Running.{running_none, running_more, running_all}
 use Rattle.planner.proofs.run.run_series.Goals as goal
 
 pub loop-call-init : goal.loop-call-init
-loop-call-init g c = rw c.in_ok-planner.ensures.made (refl, running_none _ _ _ _ c.new-entries.ensures.items)
+loop-call-init g c =
+    let made = c.in_ok-planner.ensures.made in
+    rw (made.0, made.1, made.2) (refl, running_none _ _ _ _ c.new-entries.ensures.items)
 
 pub loop-call-preserved : goal.loop-call-preserved
 loop-call-preserved g c =
@@ -21,7 +23,8 @@ loop-call-preserved g c =
 
 pub returns-clause-law : goal.returns-clause-law
 returns-clause-law g c =
-    let r = rw c.in_ok-planner.ensures.made at c.loop-call.invariant.1 in
+    let made = c.in_ok-planner.ensures.made in
+    let r = rw (made.0, made.1) at c.loop-call.invariant.1 in
     let emptied = c.in_ok-closing.ensures in
     record {
       made = r.made ∙ take_all _ _ c.loop-call-test.false;

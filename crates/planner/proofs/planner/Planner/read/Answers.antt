@@ -51,7 +51,7 @@ pub returns-in_default-clause-refused : goal.returns-in_default-clause-refused
 returns-in_default-clause-refused g c =
     let p = c.self.inside in
     let end = ended_feed g (goal.at.returns-in_default-clause-refused g c).In_default in
-    rw (← c.self.view_is) (ap (λ f. record { feed = f; model = p.model; window = window p.rows; proved = p.proved }) end.2)
+    rw (← c.self.view_is) (ap (λ f. record { feed = f; model = p.model; rows = p.rows; proved = p.proved }) end.2)
 
 pub returns-in_err-demand : goal.returns-in_err-demand
 returns-in_err-demand g c =
@@ -66,7 +66,7 @@ returns-in_err-demand g c =
           (faulty _ all es _ tr (unproved g (goal.at.returns-in_err-demand g c).Else-is_some) (omega (arith, c.len.ensures)) (omega (arith, c.read.ensures)) end.0 _ end.1);
       onward = rw out.1 tt;
       model = refl;
-      refused = rw out.1 (ap (λ f. record { feed = f; model = p.model; window = window p.rows; proved = p.proved }) same);
+      refused = rw out.1 (ap (λ f. record { feed = f; model = p.model; rows = p.rows; proved = p.proved }) same);
     })
 
 pub returns-clause-follows : goal.returns-clause-follows
