@@ -22,8 +22,8 @@ none_jumps x (y ∷ ys) calm =
 
 pub jumps_told : (xs : List CostLine) (r : Bool)
     → MatchBool r
-      ((k : ℕ) × (k + 1 < length xs) × ((get_or xs k empty_line).holding < (get_or xs (k + 1) empty_line).unit - (get_or xs k empty_line).unit))
-      ((k : ℕ) → k + 1 < length xs → (get_or xs (k + 1) empty_line).unit - (get_or xs k empty_line).unit ≤ (get_or xs k empty_line).holding)
+    ((k : ℕ) × (k + 1 < length xs) × ((get_or xs k empty_line).holding < (get_or xs (k + 1) empty_line).unit - (get_or xs k empty_line).unit))
+    ((k : ℕ) → k + 1 < length xs → (get_or xs (k + 1) empty_line).unit - (get_or xs k empty_line).unit ≤ (get_or xs k empty_line).holding)
     → r ≡ jumps xs
 jumps_told [] true m = absurd (omega (arith, m.1))
 jumps_told [] false m = refl

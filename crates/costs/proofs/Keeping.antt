@@ -34,10 +34,10 @@ last_kept lines i xs x h k s =
     let a : get_or xs (i - 1) x ≡ x = ap (λ m. get_or xs m x) (sym q) ∙ get_or_from_slice_get xs (length xs - 1) x x s in
     let t : get_or (take i lines) (i - 1) empty_line ≡ get_or lines (i - 1) empty_line = get_or-take i lines (i - 1) empty_line (omega (arith, n, w)) in
     let l : x.line ≡ get_or lines (i - 1) empty_line =
-          ap line_of (sym a) ∙ sym (get_or-map line_of xs (i - 1) x empty_line u) ∙ ap (λ ls. get_or ls (i - 1) empty_line) k.stored ∙ t in
+    ap line_of (sym a) ∙ sym (get_or-map line_of xs (i - 1) x empty_line u) ∙ ap (λ ls. get_or ls (i - 1) empty_line) k.stored ∙ t in
     let m : x.held ≡ holding_before lines (get_or lines (i - 1) empty_line).date =
-          ap held_of (sym a) ∙ sym (get_or-map held_of xs (i - 1) x 0 u) ∙ ap (λ ns. get_or ns (i - 1) 0) k.held
-          ∙ get_or-map (λ y. holding_before lines y.date) (take i lines) (i - 1) empty_line 0 (omega (arith, n, w, length-take-le i lines (omega arith))) ∙ ap (λ y. holding_before lines y.date) t in
+    ap held_of (sym a) ∙ sym (get_or-map held_of xs (i - 1) x 0 u) ∙ ap (λ ns. get_or ns (i - 1) 0) k.held
+    ∙ get_or-map (λ y. holding_before lines y.date) (take i lines) (i - 1) empty_line 0 (omega (arith, n, w, length-take-le i lines (omega arith))) ∙ ap (λ y. holding_before lines y.date) t in
     record { later = omega (arith, w, n); line = l; held = m ∙ sym (ap (λ y. holding_before lines y.date) l) }
 
 -- the sum at the next line's date, from the line before it

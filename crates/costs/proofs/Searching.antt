@@ -1,8 +1,8 @@
 -- The line that the search among the dates finds, and what is kept with it.
 use Rattle.std.specs.Prelude.{zero}
-use Rattle.std.proofs.Common.{◌≡◌, ℕ, suc, ◌+◌, ◌-◌, ◌*◌, ◌<◌, ◌≤◌, Bool, true, false, leb, List, [], ◌∷◌, map, length, get_or, None, sym, ap, ◌∙◌, add-one, arith, leb-true, leb-false, refl}
-use Rattle.std.proofs.lemmas.List.{get_or_read, get_or-map, length-map}
-use Rattle.std.proofs.lemmas.List.Sorted.{IsNonDecreasingBy-from_all_adjacent, IsPartitionPoint-from_clause, IsPartitionedBy-leb}
+use Rattle.std.proofs.Common.{◌≡◌, ℕ, suc, ◌+◌, ◌-◌, ◌*◌, ◌<◌, ◌≤◌, Bool, true, false, leb, List, [], ◌∷◌, map, length, get_or, take, drop, None, sym, ap, ◌∙◌, add-one, arith, leb-true, leb-false, refl}
+use Rattle.std.proofs.lemmas.List.{get_or-map, length-map, take_rest}
+use Rattle.std.proofs.lemmas.List.Sorted.{IsNonDecreasingBy-from_all_adjacent, IsPartitionPoint-from_clause, IsPartitionedBy-leb, IsNonDecreasingBy-drop}
 use Rattle.std.specs.List.Sorted.{IsNonDecreasingBy, IsPartitionedBy, IsPartitionPoint}
 use Rattle.std.specs.Fn.{Called, ComputesKey}
 use denote.Param.Members.{Mut}
@@ -28,37 +28,40 @@ dates_stand : (xs : List HeldLine) → lines_fault (map line_of xs) ≡ None →
 dates_stand xs e =
     IsNonDecreasingBy-from_all_adjacent (λ x. x.line.date) xs
     (λ k d h.
-      let a = date_at xs k d (omega arith) in
-      let b = date_at xs (suc k) d (omega arith) in
-      let r = dates_rise (map line_of xs) k e (omega (arith, length-map xs line_of)) in
-      rw add-one (omega (arith, a, b, r)))
+    let a = date_at xs k d (omega arith) in
+    let b = date_at xs (suc k) d (omega arith) in
+    let r = dates_rise (map line_of xs) k e (omega (arith, length-map xs line_of)) in
+    rw add-one (omega (arith, a, b, r)))
 
--- the line before the first that has not begun is in force
-last_begun : (xs : List HeldLine) (p i : ℕ) (d : HeldLine) → lines_fault (map line_of xs) ≡ None → 1 ≤ p → i ≤ length xs
-    → IsPartitionPoint (λ x. leb x.line.date p ≡ true) (λ x. leb x.line.date p ≡ false) xs i → (1 ≤ i) × InForce (map line_of xs) (i - 1) p
-last_begun xs p zero d e o h s =
-    let f = first_dated (map line_of xs) e in
+-- the first line has begun, and so have the i lines behind it that the search found
+last_begun : (x : HeldLine) (xs : List HeldLine) (p i : ℕ) → lines_fault (map line_of (x ∷ xs)) ≡ None → 1 ≤ p → i ≤ length xs
+    → IsPartitionPoint (λ y. leb y.line.date p ≡ true) (λ y. leb y.line.date p ≡ false) xs i → InForce (map line_of (x ∷ xs)) i p
+last_begun x xs p i e o h s =
     let n = length-map xs line_of in
-    let a = date_at xs 0 d (omega (arith, n, f.0)) in
-    absurd (omega (arith, a, f.2, leb-false _ _ (s.1 0 d (omega arith) (omega (arith, n, f.0)))))
-last_begun xs p (suc k) d e o h s =
-    let n = length-map xs line_of in
-    let q : suc k - 1 ≡ k = omega arith in
-    rw q (omega arith, record {
+    record {
       within = omega (arith, n);
-      begun = omega (arith, date_at xs k d h, leb-true _ _ (s.0 k d (omega arith) (omega arith)));
-      unended = λ l. omega (arith, date_at xs (suc k) d (omega (arith, n)), leb-false _ _ (s.1 (suc k) d (omega arith) (omega (arith, n))));
-    })
+      begun = begun i h s;
+      unended = λ l. omega (arith, date_at xs i x (omega (arith, n)), leb-false _ _ (s.1 i x (omega arith) (omega (arith, n))));
+    }
+  where
+    begun : (i : ℕ) → i ≤ length xs → IsPartitionPoint (λ y. leb y.line.date p ≡ true) (λ y. leb y.line.date p ≡ false) xs i
+        → (get_or (map line_of (x ∷ xs)) i empty_line).date ≤ p
+    begun zero h s = omega (arith, (first_dated (map line_of (x ∷ xs)) e).2)
+    begun (suc k) h s = omega (arith, date_at xs k x h, leb-true _ _ (s.0 k x (omega arith) (omega arith)))
 
--- what `partition_point` finds, where each call tells whether the line has begun
-pub search_finds : {F : Type 0} {g : Mut F (Bor HeldLine × Unit {0}) Bool} {f : F} (xs : List HeldLine) (p i : ℕ) → lines_fault (map line_of xs) ≡ None → 1 ≤ p → i ≤ length xs
-    → ((q : HeldLine → Bool) → ComputesKey g q f → IsPartitionedBy q xs → IsPartitionPoint (λ y. q y ≡ true) (λ y. q y ≡ false) xs i)
+-- what `partition_point` finds among the lines behind the first, where each call tells whether the line has begun
+pub search_finds : {F : Type 0} {g : Mut F (Bor HeldLine × Unit {0}) Bool} {f : F} (v : List HeldLine) (p i : ℕ) → lines_fault (map line_of v) ≡ None → 1 ≤ p
+    → i ≤ length (take (length v - 1) (drop 1 v))
+    → ((q : HeldLine → Bool) → ComputesKey g q f → IsPartitionedBy q (take (length v - 1) (drop 1 v))
+    → IsPartitionPoint (λ y. q y ≡ true) (λ y. q y ≡ false) (take (length v - 1) (drop 1 v)) i)
     → ((a : Bor HeldLine × Unit {0}) (r : Bool) (f' : F) → Called g f a r f' → (r ≡ leb a.0.now.line.date p) × (f' ≡ f))
-    → (1 ≤ i) × InForce (map line_of xs) (i - 1) p
+    → InForce (map line_of v) i p
 search_finds [] p i e o h s calls = absurd (omega (arith, (first_dated [] e).0))
 search_finds (x ∷ xs) p i e o h s calls =
-    last_begun (x ∷ xs) p i x e o h
-    (IsPartitionPoint-from_clause (λ y. leb y.line.date p) (x ∷ xs) i s (IsPartitionedBy-leb (λ y. y.line.date) (x ∷ xs) p (dates_stand (x ∷ xs) e)) calls)
+    let t = take_rest (x ∷ xs) 1 in
+    let parted = IsNonDecreasingBy-drop (λ y. y.line.date) 1 (x ∷ xs) (dates_stand (x ∷ xs) e) in
+    last_begun x xs p i e o (rw t at h)
+    (IsPartitionPoint-from_clause (λ y. leb y.line.date p) xs i (rw t at s) (IsPartitionedBy-leb (λ y. y.line.date) xs p parted) calls)
 
 -- what is kept with the line in force
 pub record Known (lines : List CostLine) (p : ℕ) (x : HeldLine) : Type 0 where

@@ -1,11 +1,11 @@
 -- What asking reads, and what it comes to.
-use Rattle.std.specs.Prelude.{◌≡◌, ℕ, ◌+◌, ◌-◌, ◌*◌, ◌≤◌, false, ◌||◌, List, map, length, get_or, is_some, Some, None, Option, ◌==◌, nat_lt, slice_index_or, refl}
+use Rattle.std.specs.Prelude.{◌≡◌, ℕ, ◌+◌, ◌-◌, ◌*◌, ◌≤◌, false, ◌||◌, List, get_or, is_some, Some, None, Option, ◌==◌, nat_lt, slice_index_or, refl}
 use Rattle.std.proofs.Common.{sym, ap, ◌∙◌, arith}
-use Rattle.std.proofs.lemmas.List.{get_or_read, get_or-map, length-map}
-use Rattle.std.proofs.lemmas.Bool.{eqb-false, ne_eqb, ltb-false, or_parts, cond-false}
-use Rattle.costs.specs.Asking.{setup_told, unpriced, price_told}
+use Rattle.std.proofs.lemmas.List.{get_or_read, get_or-map}
+use Rattle.std.proofs.lemmas.Bool.{eqb-false, ltb-false, or_parts, cond-false}
+use Rattle.costs.specs.Asking.{unpriced, price_told}
 use Rattle.costs.specs.declared.line.CostLine.{CostLine}
-use Rattle.costs.specs.Dated.{empty_line, line_at, dated_setup, dated_price, holding_before, lines_fault, InForce}
+use Rattle.costs.specs.Dated.{empty_line, line_at, dated_price, holding_before, lines_fault, InForce}
 use Rattle.costs.specs.Shown.{Summed}
 use Rattle.costs.specs.InForce.{line_at_lem}
 use Rattle.costs.specs.Held.{held_between, held_on}

@@ -48,15 +48,17 @@ impl Model for DatedCosts {
 }
 
 impl DatedCosts {
-    // The line in force in period p.
+    // The line in force in period p. One copy of the search serves all prices: copies in line took longer where there are many lines.
+    #[inline(never)]
     fn in_force(&self, p: u32) -> &HeldLine
         requires { 1 ≤ p }
         ensures begun { result.now.line.date ≤ p }
         ensures line { result.now.line ≡ line_at self.now.lines p }
         ensures held { result.now.held + result.now.line.holding * (p - result.now.line.date) ≡ holding_before self.now.lines p }
     {
-        let begun = self.lines.partition_point(|x| x.line.date <= p);
-        &self.lines[begun - 1]
+        // The first line is in force from the start.
+        let later = self.lines[1..].partition_point(|x| x.line.date <= p);
+        &self.lines[later]
     }
 }
 

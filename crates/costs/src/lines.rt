@@ -40,9 +40,8 @@ impl From<DatedFault<CostFault>> for DatedCostsFault {
 fn jumps_up(lines: &[CostLine]) -> bool
     ensures { result ≡ jumps lines.now }
 {
-    lines
-        .array_windows::<2>()
-        .any(|[before, line]| line.unit.saturating_sub(before.unit) > before.holding)
+    lines.array_windows::<2>().any(|[before, line]| line.unit.saturating_sub(before.unit)
+        > before.holding)
 }
 
 // Whether a model can be made of these lines.

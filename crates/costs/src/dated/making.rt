@@ -10,6 +10,7 @@ use crate::lines::{DatedCostsFault, check_lines};
 use std::alloc::{AllocError, Global};
 
 // Why dated costs were not made: the lines are refused, or there was no memory to keep them.
+// An enum of its own: one that is generic in the refusal could not have `From` of every refusal beside that of `AllocError`.
 #[derive(Clone, Copy, PartialEq, Eq, Debug)]
 pub enum DatedCostsError {
     Refused(DatedCostsFault),
@@ -32,7 +33,7 @@ impl From<AllocError> for DatedCostsError {
     }
 }
 
-// Each line, with what it costs to hold a unit through all the periods before its date.
+// Each line, with what it costs to hold a unit through all the periods before its date. A loop and no chain, since each sum stands on the one before it.
 fn held_lines(heap: Global, lines: &[CostLine]) -> Result<Vec<HeldLine>, AllocError>
     requires { lines_fault lines.now ≡ None }
     ensures lines { IfOk result (λ v. map (λ x. x.line) v.items ≡ lines.now) }

@@ -1,25 +1,24 @@
-use Rattle.std.proofs.Common.{rules, ◌≡◌, ◌-◌, ◌≤◌, map, vec_items, arith}
-use Rattle.costs.specs.declared.dated.HeldLine.{HeldLine}
-use Rattle.costs.specs.Dated.{InForce}
+use Rattle.std.proofs.Common.{rules, vec_items, arith}
+use Rattle.std.proofs.lemmas.List.{length-map}
+use Rattle.costs.specs.InForce.{first_dated}
 use Rattle.costs.specs.Told.{none_of}
-use Rattle.costs.proofs.Searching.{search_finds, known, Known}
+use Rattle.costs.proofs.Searching.{line_of, search_finds, known, Known}
 use Rattle.costs.proofs.dated.DatedCosts.in_force.Goals as goal
 
-last : (c : goal.After-partition_point-begun)
-    → (1 ≤ c.partition_point-begun.result) × InForce (map (λ (x : HeldLine). x.line) (vec_items c.self.inside.lines)) (c.partition_point-begun.result - 1) c.args.p
-last c = search_finds (vec_items c.self.inside.lines) _ _ (none_of _ c.self.inside.right) c.requires (omega arith) (rw c.deref.ensures.value at c.partition_point-begun.ensures.partitioned) (λ a r q k. search rules)
-
-pub overflow_sub-begun : goal.overflow_sub-begun
-overflow_sub-begun c = (last c).0
+pub slice_bounds-partition_point-count : goal.slice_bounds-partition_point-count
+slice_bounds-partition_point-count c =
+    omega (arith, (first_dated _ (none_of _ c.self.inside.right)).0, length-map (vec_items c.self.inside.lines) line_of, c.deref.ensures.len)
 
 pub index-requires : goal.index-requires
-index-requires c = omega (arith, (last c).0, (last c).1.within)
+index-requires c =
+    let f = search_finds c.deref.result.now c.args.p _ (rw c.deref.ensures.value (none_of _ c.self.inside.right)) c.requires c.partition_point-later.ensures.bound c.partition_point-later.ensures.partitioned (λ a r q k. search rules) in
+    omega (arith, f.within, length-map c.deref.result.now line_of, c.deref.ensures.len)
 
 stands : (c : goal.After-index) → Known c.args.self.now.lines c.args.p c.index.result.now
 stands c =
     let e = none_of _ c.self.inside.right in
-    let f = search_finds (vec_items c.self.inside.lines) _ _ e c.requires (omega arith) (rw c.deref.ensures.value at c.partition_point-begun.ensures.partitioned) (λ a r q k. search rules) in
-    rw (← c.self.view_is) (known (vec_items c.self.inside.lines) c.args.p _ c.index.result.now e c.self.invariant f.1 c.index.ensures)
+    let f = search_finds c.deref.result.now c.args.p _ (rw c.deref.ensures.value e) c.requires c.partition_point-later.ensures.bound c.partition_point-later.ensures.partitioned (λ a r q k. search rules) in
+    rw (← c.self.view_is) (known (vec_items c.self.inside.lines) c.args.p _ c.index.result.now e c.self.invariant (rw c.deref.ensures.value at f) c.index.ensures)
 
 pub returns-clause-begun : goal.returns-clause-begun
 returns-clause-begun c = (stands c).begun
@@ -29,3 +28,7 @@ returns-clause-line c = (stands c).line
 
 pub returns-clause-held : goal.returns-clause-held
 returns-clause-held c = (stands c).held
+
+pub slice_bounds-partition_point-start : goal.slice_bounds-partition_point-start
+slice_bounds-partition_point-start c =
+    omega (arith, (first_dated _ (none_of _ c.self.inside.right)).0, length-map (vec_items c.self.inside.lines) line_of, c.deref.ensures.len)
