@@ -10,6 +10,7 @@ use crate::format::{ByteFeed, Format};
 use crate::period::Period;
 
 // Words that open a period, order and cancel in it, and end the file.
+#[derive(Clone, Copy, Debug)]
 pub struct OrderWords;
 
 pub type OrderFeed<'a> = ByteFeed<'a, OrderWords>;

@@ -12,6 +12,7 @@ use crate::line::{Front, Line, line_at, look_at};
 use crate::period::Period;
 
 // Lines of a period and its demand, then the line `end`.
+#[derive(Clone, Copy, Debug)]
 pub struct TextLines;
 
 pub type TextFeed<'a> = ByteFeed<'a, TextLines>;
