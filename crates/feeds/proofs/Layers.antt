@@ -1,48 +1,30 @@
 -- What holds of every netting layer: which are made, what they net, and what they tell.
-use Rattle.std.proofs.Common.{◌≡◌, ℕ, zero, suc, ◌+◌, ◌-◌, ◌≤◌, Bool, true, false, cond, ◌||◌, ltb, leb, List, [], ◌∷◌, ◌++◌, length, get_or, drop, Some, None, Ok, Err, Option, Result, MatchResult, sym, refl, ap, ◌∙◌, subst, append_assoc, append-nil, add-one, arith, drop-cons}
+use Rattle.std.proofs.Common.{◌≡◌, ℕ, zero, suc, ◌+◌, ◌-◌, ◌≤◌, true, ltb, leb, List, [], ◌∷◌, ◌++◌, length, get_or, drop, Some, None, Ok, Err, Option, Result, MatchResult, sym, refl, ap, ◌∙◌, subst, append_assoc, append-nil, add-one, arith, drop-cons}
 use lib.Seq.{drop-length}
-use Rattle.std.specs.Option.{option_map, option_or}
-use Rattle.std.proofs.lemmas.Bool.{cond-true, cond-false, and_parts, and_from, or_parts, ltb-true, ltb-false, le-leb}
-use Rattle.lots.specs.declared.dated.DatedFault.{DatedFault}
-use Rattle.lots.specs.declared.dated.DatedFault.TheVariants.{Count, Dates, Line}
+use Rattle.std.proofs.lemmas.Bool.{and_parts, and_from, ltb-true, ltb-false, le-leb}
 use Rattle.lots.specs.declared.dated.FirstDate.TheVariants.{AtLeast}
+use Rattle.lots.proofs.Lines.{passed, some_or_none, mapped_none, unearned_parts}
 use Rattle.lots.specs.Dated.{rises_behind, are_dates_right, earned_first}
 use Rattle.theory.specs.Endings.{Ending, finished_feed, faulty_feed}
 use Rattle.theory.specs.Netting as theory
 use Rattle.feeds.specs.declared.fault.FeedFault.{FeedFault}
-use Rattle.feeds.specs.declared.netting.fault.NettingFault.{NettingFault}
 use Rattle.feeds.specs.declared.netting.fault.NettingFault.TheVariants.{Stock, Receipts}
 use Rattle.feeds.specs.declared.receipt.Receipt.{Receipt}
-use Rattle.feeds.specs.declared.receipt.ReceiptFault.{ReceiptFault}
 use Rattle.feeds.specs.Feeding.{next_told, others, Small}
 use Rattle.feeds.specs.Netting.{risen, above}
 use Rattle.feeds.specs.Receipts.{receipt_fault, receipts_fault, coming_from, supplies, netted, supply_fault}
 use Rattle.feeds.proofs.Supplies.{comes}
 
-some≢none : {X : Type 0} (x : X) → ◌≡◌ {A = Option X} (Some x) None → ⊥
-some≢none x e = let z : ◌≡◌ {A = ℕ} 0 1 = cc in omega arith
-
 -- an amount that earns nothing is not too large
 small_amount : (x : Receipt) → receipt_fault x ≡ None → x.amount ≤ 1000000000
-small_amount x e = go (ltb 1000000000 x.amount) refl
-  where
-    go : (t : Bool) → ltb 1000000000 x.amount ≡ t → x.amount ≤ 1000000000
-    go true h = absurd (some≢none {X = ReceiptFault} (record {}) (sym (cond-true (ltb 1000000000 x.amount) _ _ h) ∙ e))
-    go false h = ltb-false 1000000000 x.amount h
-
-none_earned : (x : Receipt) (xs : List Receipt) → earned_first receipt_fault (x ∷ xs) ≡ None → (receipt_fault x ≡ None) × (earned_first receipt_fault xs ≡ None)
-none_earned x xs e = go (receipt_fault x) refl
-  where
-    go : (o : Option ReceiptFault) → receipt_fault x ≡ o → (receipt_fault x ≡ None) × (earned_first receipt_fault xs ≡ None)
-    go None h = (h, sym (ap (λ o. option_or o (earned_first receipt_fault xs)) h) ∙ e)
-    go (Some f) h = absurd (some≢none f (sym (ap (λ o. option_or o (earned_first receipt_fault xs)) h) ∙ e))
+small_amount x e = ltb-false 1000000000 x.amount (some_or_none (ltb 1000000000 x.amount) (record {}) None e).0
 
 -- receipts whose dates rise and that earn nothing come one after another
 rise_coming : (last : ℕ) (xs : List Receipt) → rises_behind (λ x. x.period) last xs ≡ true → earned_first receipt_fault xs ≡ None → coming_from (last + 1) xs ≡ true
 rise_coming last [] r e = refl
 rise_coming last (x ∷ xs) r e =
     let p = and_parts (ltb last x.period) (rises_behind (λ x. x.period) x.period xs) r in
-    let n = none_earned x xs e in
+    let n = unearned_parts receipt_fault x xs e in
     and_from (leb (last + 1) x.period) _ (le-leb _ _ (omega (arith, ltb-true last x.period p.0)))
     (and_from (leb x.amount 1000000000) _ (le-leb _ _ (small_amount x n.0)) (rise_coming x.period xs p.1 n.1))
 
@@ -50,7 +32,7 @@ first_coming : (xs : List Receipt) → are_dates_right (λ x. x.period) (AtLeast
 first_coming [] r e = refl
 first_coming (x ∷ xs) r e =
     let p = and_parts (leb 1 x.period) (rises_behind (λ x. x.period) x.period xs) r in
-    let n = none_earned x xs e in
+    let n = unearned_parts receipt_fault x xs e in
     and_from (leb 1 x.period) _ p.0 (and_from (leb x.amount 1000000000) _ (le-leb _ _ (small_amount x n.0)) (rise_coming x.period xs p.1 n.1))
 
 -- what stock and receipts are like where a layer can be made of them
@@ -59,36 +41,11 @@ pub record Right (stock : ℕ) (xs : List Receipt) : Type 0 where
   pub few : length xs ≤ 32
   pub coming : coming_from 1 xs ≡ true
 
-no_line : (o : Option ReceiptFault) → ◌≡◌ {A = Option (DatedFault ReceiptFault)} (option_map Line o) None → o ≡ None
-no_line None e = refl
-no_line (Some f) e = absurd (some≢none (Line f) e)
-
-no_receipts : (o : Option (DatedFault ReceiptFault)) → ◌≡◌ {A = Option NettingFault} (option_map Receipts o) None → o ≡ None
-no_receipts None e = refl
-no_receipts (Some f) e = absurd (some≢none (Receipts f) e)
-
-receipts_right : (xs : List Receipt) → receipts_fault xs ≡ None → (length xs ≤ 32) × (coming_from 1 xs ≡ true)
-receipts_right xs e = count (ltb (length xs) 0 || ltb 32 (length xs)) refl
-  where
-    dates : (t : Bool) → are_dates_right (λ x. x.period) (AtLeast 1) xs ≡ t → cond t (option_map Line (earned_first receipt_fault xs)) (Some Dates) ≡ None → coming_from 1 xs ≡ true
-    dates true h k = first_coming xs h (no_line (earned_first receipt_fault xs) k)
-    dates false h k = absurd (some≢none Dates k)
-
-    count : (t : Bool) → (ltb (length xs) 0 || ltb 32 (length xs)) ≡ t → (length xs ≤ 32) × (coming_from 1 xs ≡ true)
-    count true h = absurd (some≢none Count (sym (cond-true (ltb (length xs) 0 || ltb 32 (length xs)) _ _ h) ∙ e))
-    count false h = (
-      ltb-false 32 (length xs) (or_parts (ltb (length xs) 0) (ltb 32 (length xs)) h).1,
-      dates (are_dates_right (λ x. x.period) (AtLeast 1) xs) refl (sym (cond-false (ltb (length xs) 0 || ltb 32 (length xs)) _ _ h) ∙ e),
-    )
-
 pub supply_right : (stock : ℕ) (xs : List Receipt) → supply_fault stock xs ≡ None → Right stock xs
-supply_right stock xs e = go (ltb 1000000000 stock) refl
-  where
-    go : (t : Bool) → ltb 1000000000 stock ≡ t → Right stock xs
-    go true h = absurd (some≢none Stock (sym (cond-true (ltb 1000000000 stock) _ _ h) ∙ e))
-    go false h =
-        let r = receipts_right xs (no_receipts (receipts_fault xs) (sym (cond-false (ltb 1000000000 stock) _ _ h) ∙ e)) in
-        record { bounded = ltb-false 1000000000 stock h; few = r.0; coming = r.1 }
+supply_right stock xs e =
+    let p = some_or_none (ltb 1000000000 stock) Stock _ e in
+    let q = passed (λ x. x.period) receipt_fault 0 32 (AtLeast 1) xs (mapped_none Receipts (receipts_fault xs) p.1) in
+    record { bounded = ltb-false 1000000000 stock p.0; few = q.few; coming = first_coming xs q.dates q.unearned }
 
 -- such receipts rise, as the arithmetic of netting wants it
 pub coming_rising : (p : ℕ) (xs : List Receipt) → coming_from (p + 1) xs ≡ true → theory.Rising p (supplies xs)
