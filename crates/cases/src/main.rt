@@ -3,7 +3,9 @@
 #![tactic(auto)]
 
 use lots::decimal::{Numeral, number};
-use rolling_report::{calls_of, lot_file, refusal_line, replay, report, report_orders};
+use rolling_report::{
+    LotFileError, calls_of, lot_file, refusal_line, replay, report, report_orders,
+};
 use std::alloc::{AllocError, Global};
 use std::io;
 use std::io::{Read, Write};
@@ -103,9 +105,10 @@ fn answer(heap: Global, case: Case<'_>) -> Result<Vec<u8>, AllocError> {
     match case.mode {
         Mode::Plain => report(heap, case.input),
         Mode::Orders => report_orders(heap, case.input),
-        Mode::File => match lot_file(heap, case.input)? {
+        Mode::File => match lot_file(heap, case.input) {
             Ok(bytes) => hex_line(heap, &bytes),
-            Err(refusal) => refusal_line(heap, refusal),
+            Err(LotFileError::Refused(refusal)) => refusal_line(heap, refusal),
+            Err(LotFileError::Memory(error)) => Err(error),
         },
         Mode::Replay => match calls_of(heap, case.letters)? {
             Some(calls) => replay(heap, &calls, case.input),

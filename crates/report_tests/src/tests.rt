@@ -1,5 +1,6 @@
 use lots::decimal::push_decimal;
-use report::{lot_file, refusal_line, report, report_orders};
+use report::{LotFileError, lot_file, refusal_line, report, report_orders};
+use reporting::{Mode, fail, read_input};
 use std::alloc::{AllocError, Global};
 use std::process::Abort;
 use std::test::Fail;
@@ -135,7 +136,7 @@ fn orders_are_refused(rt: HostRuntime) -> Result<(), Fail> {
 }
 
 fn files(rt: &impl Abort, heap: Global, input: &[u8], output: &[u8]) -> Result<(), Fail> {
-    match lot_file(heap, input)? {
+    match lot_file(heap, input) {
         Ok(bytes) => {
             assert_eq!(rt; bytes.as_slice(), output);
             Ok(())
@@ -145,13 +146,14 @@ fn files(rt: &impl Abort, heap: Global, input: &[u8], output: &[u8]) -> Result<(
 }
 
 fn files_nothing(rt: &impl Abort, heap: Global, input: &[u8], why: &[u8]) -> Result<(), Fail> {
-    match lot_file(heap, input)? {
+    match lot_file(heap, input) {
         Ok(_) => Err(Fail::new("not refused")),
-        Err(refusal) => {
+        Err(LotFileError::Refused(refusal)) => {
             let line = refusal_line(heap, refusal)?;
             assert_eq!(rt; line.as_slice(), why);
             Ok(())
         }
+        Err(LotFileError::Memory(error)) => Err(error.into()),
     }
 }
 
@@ -166,4 +168,29 @@ fn a_plan_is_filed(rt: HostRuntime) -> Result<(), Fail> {
         b"\x80\0\0\x01\0\0\0\x02\0\0\0\x07\0\0\0\x02\0\0\0\0\0\0\0\x0d\xc0\0\0\x01",
     )?;
     files_nothing(&rt, heap, b"10,0,1\n1,4\n3,3\nend\n", b"refused 10 at 4\n")
+}
+
+#[test]
+fn an_input_is_read_up_to_a_byte_too_many(rt: HostRuntime) -> Result<(), Fail> {
+    let heap = rt.alloc();
+    let input = read_input(heap, &b"10,0,1\nend\n"[0..])?;
+    assert_eq!(rt; input.as_slice(), &b"10,0,1\nend\n"[0..]);
+    let long = vec![in heap; b'1'; 70_000]?;
+    assert_eq!(rt; read_input(heap, long.as_slice())?.len(), 65_537);
+    Ok(())
+}
+
+#[test]
+fn a_failure_says_why(rt: HostRuntime) -> Result<(), Fail> {
+    let mut told = Vec::new(rt.alloc());
+    fail(&mut told, b"no\n")?;
+    assert_eq!(rt; told.as_slice(), &b"no\n"[0..]);
+    Ok(())
+}
+
+#[test]
+fn modes_are_named(rt: HostRuntime) {
+    assert_eq!(rt; "orders".parse::<Mode>().ok(), Some(Mode::Orders));
+    assert_eq!(rt; "file".parse::<Mode>().ok(), Some(Mode::File));
+    assert_eq!(rt; "files".parse::<Mode>().ok(), None);
 }

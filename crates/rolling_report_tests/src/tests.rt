@@ -1,5 +1,7 @@
 use lots::decimal::push_decimal;
-use rolling_report::{calls_of, lot_file, refusal_line, replay, report, report_orders};
+use rolling_report::{
+    LotFileError, calls_of, lot_file, refusal_line, replay, report, report_orders,
+};
 use std::alloc::{AllocError, Global};
 use std::process::Abort;
 use std::test::Fail;
@@ -223,7 +225,7 @@ fn orders_are_refused(rt: HostRuntime) -> Result<(), Fail> {
 }
 
 fn files(rt: &impl Abort, heap: Global, input: &[u8], output: &[u8]) -> Result<(), Fail> {
-    match lot_file(heap, input)? {
+    match lot_file(heap, input) {
         Ok(bytes) => {
             assert_eq!(rt; bytes.as_slice(), output);
             Ok(())
@@ -233,13 +235,14 @@ fn files(rt: &impl Abort, heap: Global, input: &[u8], output: &[u8]) -> Result<(
 }
 
 fn files_nothing(rt: &impl Abort, heap: Global, input: &[u8], why: &[u8]) -> Result<(), Fail> {
-    match lot_file(heap, input)? {
+    match lot_file(heap, input) {
         Ok(_) => Err(Fail::new("not refused")),
-        Err(refusal) => {
+        Err(LotFileError::Refused(refusal)) => {
             let line = refusal_line(heap, refusal)?;
             assert_eq!(rt; line.as_slice(), why);
             Ok(())
         }
+        Err(LotFileError::Memory(error)) => Err(error.into()),
     }
 }
 
