@@ -1,5 +1,6 @@
 -- What writing at a place of a buffer tells and leaves.
 use Rattle.std.specs.Prelude.{ℕ, ◌+◌, cond, List, ◌++◌, length, take, drop, Some, None, Option, nat_lt}
+use Rattle.std.specs.Option.{option_or}
 use Rattle.lotfile.specs.declared.fault.WriteFault.{WriteFault}
 use Rattle.lotfile.specs.declared.fault.WriteFault.TheVariants.{NoRoom, TooMany}
 
@@ -8,14 +9,21 @@ abbrev pub write_number : WriteFault → ℕ
 write_number NoRoom = 25
 write_number TooMany = 25
 
+-- so many bytes want room behind the place
+abbrev pub room_refused : ℕ → List ℕ → ℕ → Option WriteFault
+room_refused n buffer place = cond (nat_lt (length buffer) (place + n)) (Some NoRoom) None
+
 -- a lot takes 24 bytes
 abbrev pub lot_refused : List ℕ → ℕ → Option WriteFault
-lot_refused buffer place = cond (nat_lt (length buffer) (place + 24)) (Some NoRoom) None
+lot_refused buffer place = room_refused 24 buffer place
 
--- the word at the end takes 4 bytes, and counts at most 10,000 lots
+-- a file has at most 10,000 lots
+abbrev pub count_refused : ℕ → Option WriteFault
+count_refused count = cond (nat_lt 10000 count) (Some TooMany) None
+
+-- the word at the end takes 4 bytes, and counts the lots
 abbrev pub end_refused : List ℕ → ℕ → ℕ → Option WriteFault
-end_refused buffer place count =
-    cond (nat_lt (length buffer) (place + 4)) (Some NoRoom) (cond (nat_lt 10000 count) (Some TooMany) None)
+end_refused buffer place count = option_or (room_refused 4 buffer place) (count_refused count)
 
 -- the buffer with these bytes at a place, and every other byte as it was
 unfoldable pub spliced : List ℕ → ℕ → List ℕ → List ℕ

@@ -1,22 +1,22 @@
-ghost use Rattle.std.specs.Prelude.{◌≡◌, ◌+◌, ◌*◌, ◌≤◌, length};
+ghost use Rattle.std.specs.Prelude.{◌≡◌, ◌+◌, ◌≤◌, IfOk, length};
 ghost use Rattle.std.specs.Result.{result_err};
 ghost use Rattle.lots.specs.Lots.{terms};
-ghost use Rattle.lotfile.specs.LotWords.{pairs, words_of_lot, end_words, words_bytes};
-ghost use Rattle.lotfile.specs.Writing.{lot_refused, end_refused, spliced, after};
+ghost use Rattle.lotfile.specs.LotWords.{words_of_lot, end_words, words_bytes};
+ghost use Rattle.lotfile.specs.Writing.{room_refused, lot_refused, end_refused, after};
 
 use crate::fault::WriteFault;
-use crate::words::{end_word, lot_words};
-use lots::{Lot, Word};
+use crate::words::{end_bytes, lot_bytes};
+use lots::Lot;
+use std::ops::Range;
 
-fn put_words(buffer: &mut [u8], place: usize, words: &[Word])
-    requires { place + 4 * length words.now ≤ length buffer.old }
-    ensures { buffer.new ≡ spliced buffer.old place (words_bytes (pairs words.now)) }
+// Where so many bytes lie behind a place of the buffer, if they have room there.
+fn room(buffer: &[u8], place: usize, count: usize) -> Result<Range<usize>, WriteFault>
+    ensures told { result_err result ≡ room_refused count buffer.now place }
+    ensures range { IfOk result (λ r. (r.start ≡ place) × (r.end ≡ place + count) × (r.end ≤ length buffer.now)) }
 {
-    let mut at = place;
-    for word in words {
-        let bytes = word.to_bytes();
-        buffer[at..at + 4].copy_from_slice(&bytes);
-        at += 4;
+    match place.checked_add(count) {
+        Some(end) if end <= buffer.len() => Ok(place..end),
+        _ => Err(WriteFault::NoRoom),
     }
 }
 
@@ -25,10 +25,8 @@ pub fn write_lot(buffer: &mut [u8], place: usize, lot: Lot) -> Result<(), WriteF
     ensures told { result_err result ≡ lot_refused buffer.old place }
     ensures left { buffer.new ≡ after (lot_refused buffer.old place) buffer.old place (words_bytes (words_of_lot (terms lot))) }
 {
-    if buffer.len() < 24 || place > buffer.len() - 24 {
-        return Err(WriteFault::NoRoom);
-    }
-    put_words(buffer, place, &lot_words(lot));
+    let room = room(buffer, place, 24)?;
+    buffer[room].copy_from_slice(lot_bytes(lot).as_flattened());
     Ok(())
 }
 
@@ -37,12 +35,8 @@ pub fn write_end(buffer: &mut [u8], place: usize, count: usize) -> Result<(), Wr
     ensures told { result_err result ≡ end_refused buffer.old place count }
     ensures left { buffer.new ≡ after (end_refused buffer.old place count) buffer.old place (words_bytes (end_words count)) }
 {
-    if buffer.len() < 4 || place > buffer.len() - 4 {
-        return Err(WriteFault::NoRoom);
-    }
-    if count > 10_000 {
-        return Err(WriteFault::TooMany);
-    }
-    put_words(buffer, place, &end_word(count as u32));
+    let room = room(buffer, place, 4)?;
+    let end = end_bytes(count)?;
+    buffer[room].copy_from_slice(&end);
     Ok(())
 }

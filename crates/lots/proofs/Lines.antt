@@ -1,55 +1,58 @@
--- The check of dated lines, one line on: x is the line that was read at i.
-use Rattle.std.proofs.Common.{◌≡◌, ℕ, zero, suc, ◌+◌, ◌-◌, ◌<◌, ◌≤◌, Bool, true, false, cond, ◌&&◌, ◌||◌, ltb, List, [], ◌∷◌, length, get_or, take, drop, Some, None, Option, sym, refl, ap, ◌∙◌, subst, arith}
-use Rattle.std.proofs.lemmas.List.{drop_more, take_rest}
-use Rattle.std.proofs.lemmas.Bool.{lt-ltb, le-ltb, ltb-true, ltb-false, and_parts, or_parts}
+-- The check of dated lines: what the library's calls answer of their dates and faults, and what is known of lines that pass.
+use Rattle.std.proofs.Common.{◌≡◌, ℕ, zero, suc, ◌+◌, ◌<◌, ◌≤◌, Bool, true, false, cond, ◌||◌, ltb, List, [], ◌∷◌, length, get_or, Some, None, Option, IfSome, MatchOption, sym, refl, ap, ◌∙◌, arith}
+use Rattle.std.specs.List.{AllAdjacentBelow, IsAllAdjacentAnswer, AllWithin, HoldsAt, slice_get}
+use Rattle.std.proofs.lemmas.Bool.{and_from, and_left, and_right, ltb-true, ltb-false, and_parts, or_parts}
 use Rattle.std.specs.Option.{option_map, option_or}
 use Rattle.lots.specs.declared.dated.FirstDate.{FirstDate}
 use Rattle.lots.specs.declared.dated.DatedFault.TheVariants.{Count, Dates, Line}
 use Rattle.lots.specs.Dated.{first_allowed, rises_behind, are_dates_right, earned_first, dated_fault}
 
--- what is left to look at begins with the line that was read
-drop_read : {X : Type 0} (xs : List X) (i : ℕ) (x : X) → i < length xs → x ≡ get_or xs i x → drop i xs ≡ x ∷ drop (i + 1) xs
-drop_read xs i x h e = drop_more xs i x h ∙ ap (λ y. y ∷ drop (i + 1) xs) (sym e)
+next : (k : ℕ) → suc k + 1 ≡ suc (k + 1)
+next k = omega arith
 
--- a later date leaves it to the others
-pub rises_more :
-    {L : Type 0} (date : L → ℕ) (xs : List L) (i last d : ℕ) (x : L) → i < length xs → x ≡ get_or xs i x → d ≡ date x → last < d
-    → rises_behind date last (drop i xs) ≡ rises_behind date d (drop (i + 1) xs)
-rises_more date xs i last d x h e q later =
-    ap (rises_behind date last) (drop_read xs i x h e)
-    ∙ ap (λ b. b && rises_behind date (date x) (drop (i + 1) xs)) (lt-ltb last (date x) (omega arith))
-    ∙ ap (λ n. rises_behind date n (drop (i + 1) xs)) (sym q)
+-- each line dated before the next, as `is_sorted_by` answers it, is rising dates
+rises_from : {L : Type 0} (date : L → ℕ) (x : L) (xs : List L) → AllAdjacentBelow (λ a b. true ≡ ltb (date a) (date b)) (x ∷ xs) (length (x ∷ xs)) → rises_behind date (date x) xs ≡ true
+rises_from date x [] h = refl
+rises_from date x (y ∷ ys) h =
+    and_from _ _ (sym (h 0 x (omega arith))) (rises_from date y ys (λ k d l. rw (next k) at (h (suc k) d (omega arith))))
 
--- any other date decides
-pub rises_not :
-    {L : Type 0} (date : L → ℕ) (xs : List L) (i last d : ℕ) (x : L) → i < length xs → x ≡ get_or xs i x → d ≡ date x → d ≤ last
-    → rises_behind date last (drop i xs) ≡ false
-rises_not date xs i last d x h e q early =
-    ap (rises_behind date last) (drop_read xs i x h e)
-    ∙ ap (λ b. b && rises_behind date (date x) (drop (i + 1) xs)) (le-ltb last (date x) (omega arith))
+-- one line that is not dated before the next is enough to fail
+falls_from : {L : Type 0} (date : L → ℕ) (x : L) (xs : List L) (k : ℕ) → k + 1 < length (x ∷ xs) → ((d : L) → false ≡ ltb (date (get_or (x ∷ xs) k d)) (date (get_or (x ∷ xs) (k + 1) d))) → rises_behind date (date x) xs ≡ false
+falls_from date x [] k l e = absurd (omega arith)
+falls_from date x (y ∷ ys) zero l e = and_left _ _ (sym (e x))
+falls_from date x (y ∷ ys) (suc k) l e = and_right _ _ (falls_from date y ys k (omega arith) (λ d. rw (next k) at (e d)))
 
--- once the first date is allowed, the others decide
-pub dates_from_head :
-    {L : Type 0} (date : L → ℕ) (first : FirstDate) (xs : List L) (x : L) (d : ℕ) → 1 ≤ length xs → x ≡ get_or xs 0 x → d ≡ date x
-    → true ≡ first_allowed first d → rises_behind date d (take (length xs - 1) (drop 1 xs)) ≡ are_dates_right date first xs
-dates_from_head date first [] x d h e q a = absurd (omega arith)
-dates_from_head date first (y ∷ ys) x d h e q a =
-    let P : ℕ → Type 0 = λ n. rises_behind date d ys ≡ (first_allowed first n && rises_behind date n ys) in
-    ap (rises_behind date d) (take_rest (y ∷ ys) 1) ∙ subst P (q ∙ ap date e) (ap (λ b. b && rises_behind date d ys) a)
+pub dates_sorted :
+    {L : Type 0} (date : L → ℕ) (first : FirstDate) (xs : List L) (r : Bool) → IfSome (slice_get xs 0) (λ x. first_allowed first (date x) ≡ true)
+    → IsAllAdjacentAnswer (λ a b t. t ≡ ltb (date a) (date b)) xs r → r ≡ are_dates_right date first xs
+dates_sorted date first [] true a h = refl
+dates_sorted date first [] false a h = absurd (omega (arith, h.1))
+dates_sorted date first (x ∷ xs) true a h = sym (and_from _ _ a (rises_from date x xs h))
+dates_sorted date first (x ∷ xs) false a h = sym (and_right _ _ (falls_from date x xs h.0 h.1 h.2))
 
--- a line that earns nothing leaves it to the others
-pub earned_more :
-    {L E : Type 0} (earned : L → Option E) (xs : List L) (i : ℕ) (x : L) → i < length xs → x ≡ get_or xs i x → None ≡ earned x
-    → earned_first earned (drop i xs) ≡ earned_first earned (drop (i + 1) xs)
-earned_more earned xs i x h e q =
-    ap (earned_first earned) (drop_read xs i x h e) ∙ ap (λ o. option_or o (earned_first earned (drop (i + 1) xs))) (sym q)
+module _ {L E : Type 0} (earned : L → Option E) where
+  abbrev pub EarnsNothing : L → Type 0
+  EarnsNothing x = earned x ≡ None
 
--- a line that earns something decides
-pub earned_here :
-    {L E : Type 0} (earned : L → Option E) (xs : List L) (i : ℕ) (x : L) (f : E) → i < length xs → x ≡ get_or xs i x → Some f ≡ earned x
-    → earned_first earned (drop i xs) ≡ Some f
-earned_here earned xs i x f h e q =
-    ap (earned_first earned) (drop_read xs i x h e) ∙ ap (λ o. option_or o (earned_first earned (drop (i + 1) xs))) (sym q)
+  earned_none : (xs : List L) → AllWithin EarnsNothing xs 0 (length xs) → earned_first earned xs ≡ None
+  earned_none [] h = refl
+  earned_none (x ∷ xs) h =
+      ap (λ o. option_or o (earned_first earned xs)) (h 0 x (omega arith) (omega arith)) ∙ earned_none xs (λ k d a l. h (suc k) d (omega arith) (omega arith))
+
+  earned_at : (xs : List L) (y : E) (i : ℕ) → i < length xs → HoldsAt (λ x. earned x ≡ Some y) xs i → AllWithin EarnsNothing xs 0 i → earned_first earned xs ≡ Some y
+  earned_at [] y i l e n = absurd (omega arith)
+  earned_at (x ∷ xs) y zero l e n = ap (λ o. option_or o (earned_first earned xs)) (e x)
+  earned_at (x ∷ xs) y (suc i) l e n =
+      ap (λ o. option_or o (earned_first earned xs)) (n 0 x (omega arith) (omega arith))
+      ∙ earned_at xs y i (omega arith) e (λ k d a b. n (suc k) d (omega arith) (omega arith))
+
+  -- what the first line earns that earns anything, by its place
+  abbrev pub IsFound : List L → Option E → Type 0
+  IsFound xs r = MatchOption r (AllWithin EarnsNothing xs 0 (length xs)) (λ y. (i : ℕ) × (i < length xs) × HoldsAt (λ x. earned x ≡ Some y) xs i × AllWithin EarnsNothing xs 0 i)
+
+  pub earned_found : (xs : List L) (r : Option E) → IsFound xs r → r ≡ earned_first earned xs
+  earned_found xs None h = sym (earned_none xs h)
+  earned_found xs (Some y) h = sym (earned_at xs y h.0 h.1 h.2 h.3)
 
 -- rising dates are all later than the one before them
 pub rises_past : {L : Type 0} (date : L → ℕ) (last : ℕ) (xs : List L) (z : L) (k : ℕ) → rises_behind date last xs ≡ true → k < length xs → last < date (get_or xs k z)

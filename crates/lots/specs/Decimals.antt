@@ -1,17 +1,15 @@
 -- Decimal numbers at the front of a text.
-use Rattle.std.specs.Prelude.{◌≡◌, ℕ, ◌+◌, ◌-◌, ◌*◌, ◌^◌, ◌<◌, ◌≤◌, min, Bool, cond, ◌&&◌, ◌||◌, List, [], ◌∷◌, ◌++◌, length, Some, None, decimal, Option, ◌==◌, nat_le, nat_lt, slice_index}
+use Rattle.std.specs.Prelude.{◌≡◌, ℕ, ◌+◌, ◌-◌, ◌*◌, ◌^◌, ◌<◌, ◌≤◌, min, Bool, cond, ◌&&◌, ◌||◌, List, [], ◌++◌, length, Some, None, decimal, Option, ◌==◌, nat_le, nat_lt, slice_index, take_while, fold}
 use Rattle.std.specs.Char.{is_ascii_digit}
 use Rattle.lots.specs.declared.decimal.Numeral.{Numeral}
 
 -- the decimal digits at the front
 unfoldable pub digits_at : List ℕ → List ℕ
-digits_at [] = []
-digits_at (c ∷ cs) = cond (is_ascii_digit c) (c ∷ digits_at cs) []
+digits_at bs = take_while is_ascii_digit bs
 
 -- what digits are worth behind digits that are worth n
 unfoldable pub worth : ℕ → List ℕ → ℕ
-worth n [] = n
-worth n (c ∷ cs) = worth (n * 10 + (c - 48)) cs
+worth n ds = fold (λ v c. v * 10 + (c - 48)) n ds
 
 -- 1 to `most` digits, but never more than 19, with no 0 in front of others
 unfoldable pub well_formed : ℕ → List ℕ → Bool

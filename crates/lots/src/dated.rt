@@ -1,7 +1,7 @@
 // Lines with dates, as cost lines and receipts are, and the one check that serves every kind of them.
 ghost use Rattle.std.specs.Prelude.{◌≡◌, ℕ, Option};
 ghost use Rattle.std.specs.Result.{result_err};
-ghost use Rattle.lots.specs.Dated.{first_allowed, rises_behind, are_dates_right, earned_first, dated_fault, dated_number};
+ghost use Rattle.lots.specs.Dated.{first_allowed, are_dates_right, earned_first, dated_fault, dated_number};
 
 // What the check has to know of a line: its date, and what its own amounts earn, if they are wrong.
 // A kind of line without amounts earns nothing, and has a type without values for its fault.
@@ -19,7 +19,7 @@ pub trait DatedLine {
         ensures { result ≡ earned self.now };
 }
 
-// A refusal that is told by its number.
+// A refusal that is told by its number: programs print it, and C callers are answered with it.
 pub trait Refusal {
     ghost numbered: { Self → ℕ };
 
@@ -65,39 +65,18 @@ impl<E: Refusal> Refusal for DatedFault<E> {
     }
 }
 
-// Whether each date is later than the one before it, and the first later than `last`.
-fn rises_after<L: DatedLine>(mut last: u32, lines: &[L]) -> bool
-    ensures { result ≡ rises_behind L.dated last lines.now }
-{
-    for line in lines {
-        let date = line.date();
-        if date <= last {
-            return false;
-        }
-        last = date;
-    }
-    true
-}
-
+// Whether the first date is allowed, and each other later than the one before it.
 fn dates_right<L: DatedLine>(lines: &[L], first: FirstDate) -> bool
     ensures { result ≡ are_dates_right L.dated first lines.now }
 {
-    let [head, rest @ ..] = lines else {
-        return true;
-    };
-    let date = head.date();
-    first.allows(date) && rises_after(date, rest)
+    lines.first().is_none_or(|line| first.allows(line.date()))
+        && lines.is_sorted_by(|line, next| line.date() < next.date())
 }
 
 fn first_earned<L: DatedLine>(lines: &[L]) -> Option<L::Fault>
     ensures { result ≡ earned_first L.earned lines.now }
 {
-    for line in lines {
-        if let Some(fault) = line.fault() {
-            return Some(fault);
-        }
-    }
-    None
+    lines.iter().find_map(|line| line.fault())
 }
 
 // Whether these lines may stand: first their count is looked at, then their dates, then each line's own amounts.
@@ -109,7 +88,7 @@ pub fn check_dated<L: DatedLine>(
 ) -> Result<(), DatedFault<L::Fault>>
     ensures { result_err result ≡ dated_fault L.dated L.earned fewest most first lines.now }
 {
-    if lines.len() < fewest || lines.len() > most {
+    if !(fewest..=most).contains(&lines.len()) {
         return Err(DatedFault::Count);
     }
     if !dates_right(lines, first) {

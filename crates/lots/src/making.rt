@@ -19,7 +19,7 @@ impl Lot {
         if from < 1 || through < from || evidence < through || evidence > 10_000 {
             return None;
         }
-        if through - from > 255 || amount < 1 || amount > 256_000_000 || cost >= 1 << 60 {
+        if through - from > 255 || !(1..=256_000_000).contains(&amount) || cost >= 1 << 60 {
             return None;
         }
         if kind == LotKind::Frozen && through == evidence {
