@@ -30,7 +30,7 @@ fn cost_lines(heap: Global, numbers: &[u32]) -> Result<Vec<CostLine>, PlanError>
 }
 
 pub fn costs(heap: Global, bytes: &[u8]) -> Result<DatedCosts, PlanError>
-    ensures { Told (λ m. m.lines.items) result (costs_due bytes.now) }
+    ensures { Told (λ m. m.lines) result (costs_due bytes.now) }
 {
     let numbers = numbers(heap, bytes)?;
     let lines = cost_lines(heap, &numbers)?;

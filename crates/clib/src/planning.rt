@@ -19,7 +19,7 @@ use std::alloc::Global;
 
 // The lots of all that the feed hands out.
 fn plan<F: Feed + Drop>(heap: Global, feed: F, model: DatedCosts) -> Result<Vec<Lot>, PlanError>
-    ensures { Told (λ v. map terms v.items) result (plan_due model.lines.items (record { demands = F.Feed.demands feed; ending = F.Feed.ending feed })) }
+    ensures { Told (λ v. map terms v.items) result (plan_due model.lines (record { demands = F.Feed.demands feed; ending = F.Feed.ending feed })) }
 {
     let planned = plan_forecast(heap, feed, model)?;
     match planned.stop {
@@ -45,7 +45,7 @@ fn plan_plain<F: Feed + Drop>(
     feed: F,
     model: DatedCosts,
 ) -> Result<Vec<Lot>, PlanError>
-    ensures { Told (λ v. map terms v.items) result (then (through 0 netting.now (record { demands = F.Feed.demands feed; ending = F.Feed.ending feed })) (plan_due model.lines.items)) }
+    ensures { Told (λ v. map terms v.items) result (then (through 0 netting.now (record { demands = F.Feed.demands feed; ending = F.Feed.ending feed })) (plan_due model.lines)) }
 {
     if !netting.is_empty() {
         return Err(PlanError::Refused(Refusal::Layout));
@@ -60,7 +60,7 @@ fn plan_through_one<F: Feed + Drop>(
     feed: F,
     model: DatedCosts,
 ) -> Result<Vec<Lot>, PlanError>
-    ensures { Told (λ v. map terms v.items) result (then (through 1 netting.now (record { demands = F.Feed.demands feed; ending = F.Feed.ending feed })) (plan_due model.lines.items)) }
+    ensures { Told (λ v. map terms v.items) result (then (through 1 netting.now (record { demands = F.Feed.demands feed; ending = F.Feed.ending feed })) (plan_due model.lines)) }
 {
     if netting.is_empty() {
         return plan(heap, feed, model);
@@ -76,7 +76,7 @@ fn plan_through_two<F: Feed + Drop>(
     feed: F,
     model: DatedCosts,
 ) -> Result<Vec<Lot>, PlanError>
-    ensures { Told (λ v. map terms v.items) result (then (through 2 netting.now (record { demands = F.Feed.demands feed; ending = F.Feed.ending feed })) (plan_due model.lines.items)) }
+    ensures { Told (λ v. map terms v.items) result (then (through 2 netting.now (record { demands = F.Feed.demands feed; ending = F.Feed.ending feed })) (plan_due model.lines)) }
 {
     if netting.is_empty() {
         return plan(heap, feed, model);
@@ -92,7 +92,7 @@ fn plan_through_three<F: Feed + Drop>(
     feed: F,
     model: DatedCosts,
 ) -> Result<Vec<Lot>, PlanError>
-    ensures { Told (λ v. map terms v.items) result (then (through 3 netting.now (record { demands = F.Feed.demands feed; ending = F.Feed.ending feed })) (plan_due model.lines.items)) }
+    ensures { Told (λ v. map terms v.items) result (then (through 3 netting.now (record { demands = F.Feed.demands feed; ending = F.Feed.ending feed })) (plan_due model.lines)) }
 {
     if netting.is_empty() {
         return plan(heap, feed, model);

@@ -1,3 +1,5 @@
 pub mod Answered
 mod Jumps
+mod Keeping
+mod Searching
 mod Refusing

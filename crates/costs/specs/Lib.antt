@@ -6,4 +6,5 @@ pub mod Making
 pub mod Constants
 pub mod Held
 pub mod InForce
+pub mod Shown
 pub mod Told

@@ -1,5 +1,5 @@
-ghost use Rattle.std.specs.Prelude.{◌≡◌, ◌≤◌, false, map, is_some};
-ghost use Rattle.costs.specs.Dated.{dated_setup, dated_price, holding_before, lines_fault, InForce};
+ghost use Rattle.std.specs.Prelude.{◌≡◌, ◌<◌, ◌≤◌, ◌+◌, ◌*◌, ◌-◌, false, map, is_some};
+ghost use Rattle.costs.specs.Dated.{dated_setup, dated_price, holding_before, lines_fault, line_at};
 ghost use Rattle.costs.specs.Held.{dated_lawful};
 ghost use Rattle.costs.specs.Told.{none_of};
 
@@ -7,59 +7,71 @@ pub mod making;
 
 use crate::line::CostLine;
 use crate::model::{CostModel, no_price};
+use std::marker::Model;
+
+// A line, and what it costs to hold a unit through all the periods before its date.
+#[derive(Clone, Copy)]
+struct HeldLine {
+    line: CostLine,
+    held: u64,
+    ghost holding_fits: { line.holding ≤ 3000 },
+    ghost held_fits: { held ≤ 3000 * line.date },
+}
+
+impl HeldLine {
+    // What it costs to hold a unit through all the periods before p, where this line is in force from its date until then.
+    fn held_before(&self, p: u32) -> u64
+        requires { self.now.line.date ≤ p }
+        ensures value { result ≡ self.now.held + self.now.line.holding * (p - self.now.line.date) }
+        ensures fits { result ≤ 3000 * p }
+    {
+        self.held + self.line.holding * u64::from(p - self.line.date)
+    }
+}
 
 // Costs that change from date to date. Asking takes a search among the dates and no walk over periods.
 #[derive(Drop)]
 pub struct DatedCosts {
-    lines: Vec<CostLine>,
-    // For each line, what it costs to hold a unit through all the periods before its date.
-    held: Vec<u64>,
-    ghost right: { is_some (lines_fault lines.items) ≡ false },
-    ghost summed: { held.items ≡ map (λ x. holding_before lines.items x.date) lines.items },
+    lines: Vec<HeldLine>,
+    ghost right: { is_some (lines_fault (map (λ x. x.line) lines.items)) ≡ false },
+}
+
+impl Model for DatedCosts {
+    ghost use Rattle.std.specs.Prelude.{map};
+    ghost use Rattle.costs.specs.Shown.{Shown, Summed};
+
+    ghost Value = { Shown };
+
+    ghost view = { λ s. record { lines = map (λ x. x.line) s.lines.items; right = s.right } };
+
+    ghost invariant = { λ s. Summed (map (λ x. x.line) s.lines.items) (map (λ x. x.held) s.lines.items) };
 }
 
 impl DatedCosts {
-    // The index of the line in force in period p.
-    fn in_force(&self, p: u32) -> usize
+    // The line in force in period p.
+    fn in_force(&self, p: u32) -> &HeldLine
         requires { 1 ≤ p }
-        ensures { InForce self.now.lines.items result p }
+        ensures begun { result.now.line.date ≤ p }
+        ensures line { result.now.line ≡ line_at self.now.lines p }
+        ensures held { result.now.held + result.now.line.holding * (p - result.now.line.date) ≡ holding_before self.now.lines p }
     {
-        let mut low = 0;
-        let mut high = self.lines.len();
-        while high - low > 1 {
-            let middle = low + (high - low) / 2;
-            if self.lines[middle].date <= p {
-                low = middle;
-            } else {
-                high = middle;
-            }
-        }
-        low
-    }
-
-    // What it costs to hold a unit through all the periods before p, in which the line at k is in force.
-    fn held_before(&self, k: usize, p: u32) -> u64
-        requires { InForce self.now.lines.items k p }
-        ensures { result ≡ holding_before self.now.lines.items p }
-    {
-        let line = self.lines[k];
-        self.held[k] + line.holding * u64::from(p - line.date)
+        let begun = self.lines.partition_point(|x| x.line.date <= p);
+        &self.lines[begun - 1]
     }
 }
 
 impl CostModel for DatedCosts {
-    ghost K = { λ m. dated_setup m.lines.items };
+    ghost K = { λ m. dated_setup m.lines };
 
-    ghost V = { λ m. dated_price m.lines.items };
+    ghost V = { λ m. dated_price m.lines };
 
-    ghost lawful = { λ m. dated_lawful m.lines.items (none_of _ m.right) };
+    ghost lawful = { λ m. dated_lawful m.lines (none_of _ m.right) };
 
     fn setup(&self, j: u32) -> Option<u64> {
         if j == 0 {
             return None;
         }
-        let line = self.in_force(j);
-        Some(self.lines[line].setup)
+        Some(self.in_force(j).line.setup)
     }
 
     fn price(&self, j: u32, i: u32) -> Option<u64> {
@@ -68,7 +80,7 @@ impl CostModel for DatedCosts {
         }
         let made = self.in_force(j);
         let used = self.in_force(i);
-        let held = self.held_before(used, i) - self.held_before(made, j);
-        Some(self.lines[made].unit + held)
+        let held = used.held_before(i) - made.held_before(j);
+        Some(made.line.unit + held)
     }
 }

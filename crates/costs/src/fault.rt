@@ -1,4 +1,5 @@
 ghost use Rattle.std.specs.Prelude.{◌≡◌};
+ghost use Rattle.std.specs.Result.{result_err};
 ghost use Rattle.costs.specs.Constant.{cost_fault, fault_number};
 
 use lots::Refusal;
@@ -15,30 +16,20 @@ pub enum CostFault {
 }
 
 impl CostFault {
-    // What is wrong with these numbers, if anything is.
-    pub fn found(setup: u64, unit: u64, holding: u64) -> Option<CostFault>
-        ensures { result ≡ cost_fault setup unit holding }
+    // Whether these numbers are in their bounds; the first that is not is the fault.
+    pub fn check(setup: u64, unit: u64, holding: u64) -> Result<(), CostFault>
+        ensures { result_err result ≡ cost_fault setup unit holding }
     {
-        if setup < 1 || setup > 1_000_000_000 {
-            return Some(CostFault::Setup);
+        if !(1..=1_000_000_000).contains(&setup) {
+            return Err(CostFault::Setup);
         }
         if unit > 100_000 {
-            return Some(CostFault::Unit);
+            return Err(CostFault::Unit);
         }
         if holding > 3_000 {
-            return Some(CostFault::Holding);
+            return Err(CostFault::Holding);
         }
-        None
-    }
-
-    pub fn number(self) -> u32
-        ensures { result ≡ fault_number self }
-    {
-        match self {
-            CostFault::Setup => 1,
-            CostFault::Unit => 2,
-            CostFault::Holding => 3,
-        }
+        Ok(())
     }
 }
 
@@ -46,6 +37,10 @@ impl Refusal for CostFault {
     ghost numbered = { fault_number };
 
     fn number(&self) -> u32 {
-        CostFault::number(*self)
+        match self {
+            CostFault::Setup => 1,
+            CostFault::Unit => 2,
+            CostFault::Holding => 3,
+        }
     }
 }

@@ -24,6 +24,6 @@ impl DatedLine for CostLine {
     }
 
     fn fault(&self) -> Option<CostFault> {
-        CostFault::found(self.setup, self.unit, self.holding)
+        CostFault::check(self.setup, self.unit, self.holding).err()
     }
 }

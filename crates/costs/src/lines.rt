@@ -1,7 +1,7 @@
 // Which cost lines make a model.
 ghost use Rattle.std.specs.Prelude.{◌≡◌};
 ghost use Rattle.std.specs.Result.{result_err};
-ghost use Rattle.costs.specs.Dated.{jumps, jumps_behind, lines_fault, lines_number};
+ghost use Rattle.costs.specs.Dated.{jumps, lines_fault, lines_number};
 ghost use Rattle.costs.specs.declared.lines.DatedCostsFault.TheVariants.{Lines};
 
 use crate::fault::CostFault;
@@ -36,26 +36,13 @@ impl From<DatedFault<CostFault>> for DatedCostsFault {
     }
 }
 
-// Whether a unit cost is above the unit and holding cost of the line before it, which is `before` for the first.
-fn jumps_after(mut before: CostLine, lines: &[CostLine]) -> bool
-    ensures { result ≡ jumps_behind before lines.now }
-{
-    for line in lines {
-        if line.unit.saturating_sub(before.unit) > before.holding {
-            return true;
-        }
-        before = *line;
-    }
-    false
-}
-
+// Whether a line's unit cost is above the unit and holding cost of the line before it.
 fn jumps_up(lines: &[CostLine]) -> bool
     ensures { result ≡ jumps lines.now }
 {
-    let [head, rest @ ..] = lines else {
-        return false;
-    };
-    jumps_after(*head, rest)
+    lines
+        .array_windows::<2>()
+        .any(|[before, line]| line.unit.saturating_sub(before.unit) > before.holding)
 }
 
 // Whether a model can be made of these lines.

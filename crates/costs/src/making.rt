@@ -9,13 +9,11 @@ impl ConstantCosts {
     pub fn new(setup: u64, unit: u64, holding: u64) -> Result<ConstantCosts, CostFault>
         ensures { outcome result ≡ due setup unit holding }
     {
-        match CostFault::found(setup, unit, holding) {
-            Some(fault) => Err(fault),
-            None => Ok(ConstantCosts {
-                setup,
-                unit,
-                holding,
-            }),
-        }
+        CostFault::check(setup, unit, holding)?;
+        Ok(ConstantCosts {
+            setup,
+            unit,
+            holding,
+        })
     }
 }

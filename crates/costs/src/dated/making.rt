@@ -1,9 +1,10 @@
 ghost use Rattle.std.specs.Prelude.{◌≡◌, map, IfOk, None};
-ghost use Rattle.costs.specs.Dated.{holding_before, lines_fault};
+ghost use Rattle.costs.specs.Dated.{lines_fault};
+ghost use Rattle.costs.specs.Shown.{Summed};
 ghost use Rattle.costs.specs.DatedMaking.{Made};
 ghost use Rattle.costs.specs.declared.dated.making.DatedCostsError.TheVariants.{Refused as refusal, NoMemory};
 
-use crate::dated::DatedCosts;
+use crate::dated::{DatedCosts, HeldLine};
 use crate::line::CostLine;
 use crate::lines::{DatedCostsFault, check_lines};
 use std::alloc::{AllocError, Global};
@@ -31,20 +32,21 @@ impl From<AllocError> for DatedCostsError {
     }
 }
 
-// For each line, what it costs to hold a unit through all the periods before its date.
-fn held_sums(heap: Global, lines: &[CostLine]) -> Result<Vec<u64>, AllocError>
+// Each line, with what it costs to hold a unit through all the periods before its date.
+fn held_lines(heap: Global, lines: &[CostLine]) -> Result<Vec<HeldLine>, AllocError>
     requires { lines_fault lines.now ≡ None }
-    ensures { IfOk result (λ v. v.items ≡ map (λ x. holding_before lines.now x.date) lines.now) }
+    ensures lines { IfOk result (λ v. map (λ x. x.line) v.items ≡ lines.now) }
+    ensures held { IfOk result (λ v. Summed lines.now (map (λ x. x.held) v.items)) }
 {
-    let mut held = Vec::new(heap);
-    let mut sum = 0;
-    let mut before = lines[0];
+    let mut held_lines: Vec<HeldLine> = Vec::with_capacity(heap, lines.len())?;
     for line in lines {
-        sum += before.holding * u64::from(line.date - before.date);
-        held.push(sum)?;
-        before = *line;
+        let held = match held_lines.last() {
+            Some(last) => last.held_before(line.date),
+            None => 0,
+        };
+        held_lines.push(HeldLine { line: *line, held })?;
     }
-    Ok(held)
+    Ok(held_lines)
 }
 
 impl DatedCosts {
@@ -53,8 +55,8 @@ impl DatedCosts {
         ensures { Made lines.now result }
     {
         check_lines(lines)?;
-        let held = held_sums(heap, lines)?;
-        let lines = Vec::from_slice(heap, lines)?;
-        Ok(DatedCosts { lines, held })
+        Ok(DatedCosts {
+            lines: held_lines(heap, lines)?,
+        })
     }
 }

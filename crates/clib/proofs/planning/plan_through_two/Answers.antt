@@ -14,7 +14,7 @@ use Rattle.clib.proofs.planning.plan_through_two.Goals as goal
 pub returns : goal.returns
 returns c c' =
     let xs = c'.args.netting.now in
-    subst (λ (d : Result Forecast Refusal). Told (λ (v : Vec Lot Global). map terms (vec_items v)) c'.plan_through_one.result (then d (plan_due (vec_items c'.args.model.lines))))
+    subst (λ (d : Result Forecast Refusal). Told (λ (v : Vec Lot Global). map terms (vec_items v)) c'.plan_through_one.result (then d (plan_due c'.args.model.lines)))
     (sym (through_more 1 xs _ _ _ _ (eqb-false (length xs) 0 (sym c'.if-is_empty.ensures)) c'.in_ok-layer.ensures.told c'.in_ok-netted.ensures
     (sym (take_rest xs c'.in_ok-layer.layer.length))))
     c'.plan_through_one.ensures
