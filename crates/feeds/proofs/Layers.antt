@@ -117,12 +117,6 @@ nets_are s rs gross =
     ∙ ap (λ t. theory.nets s rs gross (length gross) ++ netted rs (suc (length gross)) (theory.carried s rs gross (length gross)) t) (drop-length gross)
     ∙ append-nil (theory.nets s rs gross (length gross))
 
--- net demands are small where the gross demands are
-pub net_small : (rs : List theory.Receipt) (i stock : ℕ) (ds : List ℕ) → Small ds → Small (netted rs i stock ds)
-unfolding netted
-net_small rs i stock [] h = tt
-net_small rs i stock (d ∷ ds) h = (omega (arith, h.0), net_small rs (i + 1) _ ds h.1)
-
 -- what was told of a list says what the list is
 pub told_fault : (ds : List ℕ) (e : Ending FeedFault) (f : FeedFault) → Err f ≡ next_told ds e → (ds ≡ []) × (e ≡ faulty_feed f)
 told_fault [] finished_feed f h = let z : ◌≡◌ {A = ℕ} 0 1 = cc in absurd (omega arith)

@@ -1,19 +1,18 @@
 -- What holds of every period and forecast of order words, whatever the bytes.
-use Rattle.std.proofs.Common.{◌≡◌, ℕ, zero, suc, ◌+◌, ◌-◌, ◌<◌, ◌≤◌, Bool, true, false, cond, eqb, ltb, leb, List, length, take, drop, IfSome, IfOk, Some, None, Ok, Err, Option, Result, sym, refl, ap, ◌∙◌, subst, arith, length-drop}
-use Rattle.std.proofs.lemmas.List.{take_rest}
-use Rattle.std.proofs.lemmas.Bool.{cond-true, cond-false, cond_both, lt-ltb, le-ltb, ltb-false, leb-true, eqb-true, eq-eqb, false≢true}
+use Rattle.std.proofs.Common.{◌≡◌, ℕ, zero, suc, ◌+◌, ◌-◌, ◌<◌, ◌≤◌, Bool, true, false, cond, eqb, ltb, List, length, drop, IfSome, IfOk, Some, None, Ok, Err, Option, Result, sym, refl, ap, ◌∙◌, subst, arith, length-drop}
+use Rattle.std.proofs.lemmas.Bool.{cond-true, cond-false, cond_both, lt-ltb, le-ltb, ltb-false, eqb-true, eq-eqb, false≢true}
 use Rattle.lots.specs.declared.word.WordKind.{WordKind}
 use Rattle.lots.specs.declared.word.WordKind.TheVariants.{Zero, One, Two, Three}
 use Rattle.lots.specs.Words.{word_kind, number_of_word}
 use Rattle.feeds.specs.declared.fault.RecordFault.{RecordFault}
-use Rattle.feeds.specs.declared.fault.RecordFault.TheVariants.{NothingLeft}
+use Rattle.feeds.specs.declared.fault.RecordFaultKind.TheVariants.{NothingLeft}
 use Rattle.feeds.specs.declared.period.Period.{Period}
-use Rattle.feeds.specs.Faults.{period_read}
-use Rattle.feeds.specs.Feeding.{Small}
+use Rattle.feeds.specs.Faults.{found}
 use Rattle.feeds.specs.Forecasts.{goes_further}
 use Rattle.feeds.specs.Periods.{PeriodFits}
+use Rattle.feeds.specs.SmallDemands.{counted_small}
 use Rattle.feeds.specs.Orders.{cut_at, counted, opens, summed, period_in, period_at, some, begun, order_at, orders_in, orders}
-use Rattle.feeds.proofs.Forecasts.{same_rest, small_on}
+use Rattle.feeds.proofs.Forecasts.{same_rest}
 
 -- two periods that go on alike with the sum that was counted, if one was
 same_sum : (place sum : ℕ) (r : Result (Option ℕ) RecordFault) (f g : ℕ → Result Period RecordFault)
@@ -54,38 +53,6 @@ pub word_cut : (text : List ℕ) (handed place sum : ℕ) → length (drop place
 unfolding period_at
 word_cut text handed place sum h = cut_in (length text) text handed place sum h
 
--- the bytes that are left, as the code takes them
-abbrev left : List ℕ → ℕ → List ℕ
-left text place = take (length text - place) (drop place text)
-
-pub period_cut : (text : List ℕ) (handed place sum : ℕ) (f : RecordFault) → length (left text place) < 4 → f ≡ cut_at place handed (left text place)
-    → Err f ≡ period_at text handed place sum
-period_cut text handed place sum f h e =
-    let same = take_rest text place in
-    ap Err (e ∙ ap (cut_at place handed) same) ∙ sym (word_cut text handed place sum (subst (λ bs. length bs < 4) same h))
-
-pub period_on : (text : List ℕ) (handed place sum : ℕ) (k : WordKind) (n : ℕ) (r : Result (Option ℕ) RecordFault)
-    → 4 ≤ length (left text place) → k ≡ word_kind (left text place) → n ≡ number_of_word (left text place) → r ≡ counted place handed sum k n
-    → period_at text handed place sum ≡ summed place sum r (λ s. period_at text handed (place + 4) s)
-period_on text handed place sum k n r h ke ne e =
-    let same = take_rest text place in
-    word_on text handed place sum (subst (λ bs. 4 ≤ length bs) same h)
-    ∙ ap (λ x. summed place sum x (λ s. period_at text handed (place + 4) s))
-    (sym (e ∙ (λ i. counted place handed sum ((ke ∙ ap word_kind same) i) ((ne ∙ ap number_of_word same) i))))
-
-pub length_left : (text : List ℕ) (place : ℕ) → length (left text place) ≡ length text - place
-length_left text place = ap length (take_rest text place) ∙ length-drop place text
-
--- a sum that is counted stays small
-counted_fits : (place handed sum : ℕ) (k : WordKind) (n : ℕ) → sum ≤ 1000000
-    → IfOk (counted place handed sum k n) (λ o. IfSome o (λ s. s ≤ 1000000))
-counted_fits place handed sum Zero n h =
-    cond_both (leb (sum + n) 1000000) _ _ (λ r. IfOk r (λ o. IfSome o (λ s. s ≤ 1000000))) (λ e. leb-true (sum + n) 1000000 e) (λ _. tt)
-counted_fits place handed sum One n h =
-    cond_both (leb n sum) _ _ (λ r. IfOk r (λ o. IfSome o (λ s. s ≤ 1000000))) (λ _. omega arith) (λ _. tt)
-counted_fits place handed sum Two n h = tt
-counted_fits place handed sum Three n h = tt
-
 -- a period that is read has a small demand, and ends within the text
 pub record Ends (place long : ℕ) (p : Period) : Type 0 where
   pub demand : p.demand ≤ 1000000
@@ -103,7 +70,7 @@ period_ends (suc n) text handed place sum h =
     cond_both (ltb (length (drop place text)) 4) _ _ (EndsIn place (length text)) (λ _. tt)
     (λ e. go (counted place handed sum (word_kind (drop place text)) (number_of_word (drop place text)))
     (omega (arith, ltb-false (length (drop place text)) 4 e, length-drop place text))
-    (counted_fits place handed sum (word_kind (drop place text)) (number_of_word (drop place text)) h)
+    (counted_small place handed sum (word_kind (drop place text)) (number_of_word (drop place text)) h)
     (λ s l. period_ends n text handed (place + 4) s l))
   where
     weaker : (r : Result Period RecordFault) → EndsIn (place + 4) (length text) r → EndsIn place (length text) r
@@ -135,7 +102,7 @@ opens_few place handed long Three n h =
 
 -- a record that holds a period holds one that may follow
 abbrev Fits : ℕ → ℕ → ℕ → Result (Option Period) RecordFault → Type 0
-Fits place handed long r = IfOk r (λ o. IfSome o (PeriodFits place handed long))
+Fits place handed long r = IfOk r (λ o. IfSome o (PeriodFits 1073741823 place handed long))
 
 order_fits : (text : List ℕ) (place handed : ℕ) → Fits place handed (length text) (order_at text place handed)
 unfolding order_at period_at
@@ -146,42 +113,23 @@ order_fits text place handed =
   where
     on : (r : Result Period RecordFault) → handed + 1 < 1073741824 → EndsIn (place + 4) (length text) r → Fits place handed (length text) (some r)
     on (Err f) few k = tt
-    on (Ok p) few k = record { demand = k.demand; onward = k.onward; within = k.within; few = few }
+    on (Ok p) few k = record { demand = k.demand; onward = omega (arith, k.onward); within = k.within; few = omega (arith, few) }
 
     go : (r : Result Bool RecordFault) → IfOk r (λ b. b ≡ true → handed + 1 < 1073741824) → Fits place handed (length text) (begun text place handed r)
     go (Err f) h = tt
     go (Ok false) h = tt
     go (Ok true) h = on (period_in (length text) text handed (place + 4) 0) (h refl) (period_ends (length text) text handed (place + 4) 0 (omega arith))
 
--- what is told decides what fits
-pub order_told : (text : List ℕ) (place handed : ℕ) (r : Result (Option Period) RecordFault) → r ≡ order_at text place handed
-    → record { told : r ≡ order_at text place handed; fits : Fits place handed (length text) r }
-order_told text place handed r e = record { told = e; fits = subst (Fits place handed (length text)) (sym e) (order_fits text place handed) }
-
-pub order_cut : (text : List ℕ) (place handed : ℕ) (f : RecordFault) → length (left text place) < 4 → f ≡ cut_at place handed (left text place)
-    → Err f ≡ order_at text place handed
-unfolding order_at
-order_cut text place handed f h e =
-    let same = take_rest text place in
-    ap Err (e ∙ ap (cut_at place handed) same)
-    ∙ sym (cond-true (ltb (length (drop place text)) 4) _ _ (lt-ltb _ _ (subst (λ bs. length bs < 4) same h)))
-
-pub order_on : (text : List ℕ) (place handed : ℕ) (k : WordKind) (n : ℕ) (r : Result Bool RecordFault)
-    → 4 ≤ length (left text place) → k ≡ word_kind (left text place) → n ≡ number_of_word (left text place) → r ≡ opens place handed (length (left text place)) k n
-    → begun text place handed r ≡ order_at text place handed
-unfolding order_at
-order_on text place handed k n r h ke ne e =
-    let same = take_rest text place in
-    ap (begun text place handed)
-    (e ∙ (λ i. opens place handed (ap length same i) ((ke ∙ ap word_kind same) i) ((ne ∙ ap number_of_word same) i)))
-    ∙ sym (cond-false (ltb (length (drop place text)) 4) _ _ (le-ltb _ _ (subst (λ bs. 4 ≤ length bs) same h)))
+pub order_read : (text : List ℕ) (place handed : ℕ) (r : Result (Option Period) RecordFault) → r ≡ order_at text place handed
+    → IfOk r (λ o. IfSome o (PeriodFits 1073741823 place handed (length text)))
+order_read text place handed r e = subst (Fits place handed (length text)) (sym e) (order_fits text place handed)
 
 -- a period that is read takes some of the bytes
-pub read_fits : (text : List ℕ) (place handed : ℕ) (p : Period) → order_at text place handed ≡ Ok (Some p) → PeriodFits place handed (length text) p
+pub read_fits : (text : List ℕ) (place handed : ℕ) (p : Period) → order_at text place handed ≡ Ok (Some p) → PeriodFits 1073741823 place handed (length text) p
 read_fits text place handed p e = subst (Fits place handed (length text)) e (order_fits text place handed)
 
 -- where no byte is left, that is what is told
-order_none : (text : List ℕ) (place handed : ℕ) → length text - place ≡ 0 → order_at text place handed ≡ Err (NothingLeft place (period_read handed))
+order_none : (text : List ℕ) (place handed : ℕ) → length text - place ≡ 0 → order_at text place handed ≡ Err (found place handed NothingLeft)
 unfolding order_at
 order_none text place handed z =
     let none : length (drop place text) ≡ 0 = length-drop place text ∙ z in
@@ -208,13 +156,3 @@ unfolding orders orders_in
 opened text place handed r e =
     enough (length text) (suc (length text)) text place handed (omega arith) (omega arith)
     ∙ ap (λ x. goes_further (λ (p : Period). p.demand) x (λ p. orders text p.next (handed + 1))) (sym e)
-
-small_in : (n : ℕ) (text : List ℕ) (place handed : ℕ) → Small (orders_in n text place handed).demands
-unfolding orders_in
-small_in zero text place handed = tt
-small_in (suc n) text place handed =
-    small_on (λ p. p.demand) (order_at text place handed) _ (λ p e. (read_fits text place handed p e).demand) (λ p. small_in n text p.next (handed + 1))
-
-pub small : (text : List ℕ) (place handed : ℕ) → Small (orders text place handed).demands
-unfolding orders
-small text place handed = small_in (length text) text place handed

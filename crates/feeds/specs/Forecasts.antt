@@ -3,7 +3,6 @@ use Rattle.std.specs.Prelude.{ℕ, List, [], ◌∷◌, Some, None, Ok, Err, Opt
 use Rattle.theory.specs.Endings.{Ending, finished_feed, faulty_feed}
 use Rattle.feeds.specs.declared.fault.RecordFault.{RecordFault}
 use Rattle.feeds.specs.declared.fault.FeedFault.{FeedFault}
-use Rattle.feeds.specs.declared.fault.FeedFault.TheVariants.{Record}
 
 -- a forecast: the demands still to come, and how they end
 pub record Forecast : Type 0 where
@@ -12,6 +11,6 @@ pub record Forecast : Type 0 where
 
 -- the forecast that begins with what was read of a record: a fault, the end, or a record with its demand, which `rest` follows
 abbrev pub goes_further : {R : Type 0} → (R → ℕ) → Result (Option R) RecordFault → (R → Forecast) → Forecast
-goes_further demand (Err f) rest = record { demands = []; ending = faulty_feed (Record f 0) }
+goes_further demand (Err f) rest = record { demands = []; ending = faulty_feed (record { fault = f; layers = 0 }) }
 goes_further demand (Ok None) rest = record { demands = []; ending = finished_feed }
 goes_further demand (Ok (Some r)) rest = record { demands = demand r ∷ (rest r).demands; ending = (rest r).ending }

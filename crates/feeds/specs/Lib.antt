@@ -6,6 +6,7 @@ pub mod NettingMade
 pub mod Orders
 pub mod Periods
 pub mod Receipts
+pub mod SmallDemands
 pub mod Text
 pub mod Forecasts
 pub mod Lines

@@ -3,7 +3,6 @@ use Rattle.std.specs.Prelude.{ℕ, ◌+◌, min, List, drop, vec_items}
 use Rattle.theory.specs.Endings.{Ending, finished_feed, faulty_feed}
 use Rattle.theory.specs.Netting as theory
 use Rattle.feeds.specs.declared.fault.FeedFault.{FeedFault}
-use Rattle.feeds.specs.declared.fault.FeedFault.TheVariants.{Record}
 use Rattle.feeds.specs.declared.supply.Supply.{Supply}
 use Rattle.feeds.specs.Receipts.{supplies, netted}
 
@@ -28,7 +27,7 @@ net_after s stock ds = netted (left s) (s.period + 1) stock ds
 
 -- a fault that rose through one layer more, held at 255
 abbrev pub risen : FeedFault → FeedFault
-risen (Record fault layers) = Record fault (min (layers + 1) 255)
+risen f = record { fault = f.fault; layers = min (f.layers + 1) 255 }
 
 -- how the demands above a layer end
 abbrev pub above : Ending FeedFault → Ending FeedFault

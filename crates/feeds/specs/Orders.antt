@@ -5,30 +5,29 @@ use Rattle.lots.specs.declared.word.WordKind.TheVariants.{Zero, One, Two, Three}
 use Rattle.lots.specs.Words.{word_kind, number_of_word}
 use Rattle.theory.specs.Endings.{faulty_feed}
 use Rattle.feeds.specs.declared.fault.RecordFault.{RecordFault}
-use Rattle.feeds.specs.declared.fault.RecordFault.TheVariants.{WrongPeriod, DemandTooLarge, NothingLeft, BytesAfterEnd, CutWord, BeforeFirstPeriod, CancelsTooMuch, WrongCount}
-use Rattle.feeds.specs.declared.fault.FeedFault.TheVariants.{Record}
+use Rattle.feeds.specs.declared.fault.RecordFaultKind.TheVariants.{WrongPeriod, DemandTooLarge, NothingLeft, BytesAfterEnd, CutWord, BeforeFirstPeriod, CancelsTooMuch, WrongCount}
 use Rattle.feeds.specs.declared.period.Period.{Period}
-use Rattle.feeds.specs.Faults.{period_read}
+use Rattle.feeds.specs.Faults.{found}
 use Rattle.feeds.specs.Forecasts.{Forecast, goes_further}
 
 -- what is wrong where fewer than four of the bytes bs are left
 abbrev pub cut_at : ℕ → ℕ → List ℕ → RecordFault
-cut_at place handed bs = cond (length bs == 0) (NothingLeft place (period_read handed)) (CutWord place (period_read handed))
+cut_at place handed bs = cond (length bs == 0) (found place handed NothingLeft) (found place handed CutWord)
 
 -- the running sum behind a word, or none where the word is no longer of the period
 abbrev pub counted : ℕ → ℕ → ℕ → WordKind → ℕ → Result (Option ℕ) RecordFault
-counted place handed sum Zero n = cond (nat_le (sum + n) 1000000) (Ok (Some (sum + n))) (Err (DemandTooLarge place (period_read handed)))
-counted place handed sum One n = cond (nat_le n sum) (Ok (Some (sum - n))) (Err (CancelsTooMuch place (period_read handed)))
+counted place handed sum Zero n = cond (nat_le (sum + n) 1000000) (Ok (Some (sum + n))) (Err (found place handed DemandTooLarge))
+counted place handed sum One n = cond (nat_le n sum) (Ok (Some (sum - n))) (Err (found place handed CancelsTooMuch))
 counted place handed sum Two n = Ok None
 counted place handed sum Three n = Ok None
 
 -- whether the word opens the next period; if not, it ends the file, of which so many bytes are left
 abbrev pub opens : ℕ → ℕ → ℕ → WordKind → ℕ → Result Bool RecordFault
-opens place handed left Zero n = Err (BeforeFirstPeriod place (period_read handed))
-opens place handed left One n = Err (BeforeFirstPeriod place (period_read handed))
-opens place handed left Two n = cond (n == handed + 1) (Ok true) (Err (WrongPeriod place (period_read handed)))
+opens place handed left Zero n = Err (found place handed BeforeFirstPeriod)
+opens place handed left One n = Err (found place handed BeforeFirstPeriod)
+opens place handed left Two n = cond (n == handed + 1) (Ok true) (Err (found place handed WrongPeriod))
 opens place handed left Three n =
-    cond (n == handed) (cond (nat_lt 4 left) (Err (BytesAfterEnd (place + 4) (period_read handed))) (Ok false)) (Err (WrongCount place (period_read handed)))
+    cond (n == handed) (cond (nat_lt 4 left) (Err (found (place + 4) handed BytesAfterEnd)) (Ok false)) (Err (found place handed WrongCount))
 
 -- the period that goes on with what was counted at this place
 abbrev pub summed : ℕ → ℕ → Result (Option ℕ) RecordFault → (ℕ → Result Period RecordFault) → Result Period RecordFault
@@ -65,7 +64,7 @@ order_at text place handed =
 
 -- the forecast from this place on, once so many periods were handed out; n periods at most, and then no byte is left
 unfoldable pub orders_in : ℕ → List ℕ → ℕ → ℕ → Forecast
-orders_in zero text place handed = record { demands = []; ending = faulty_feed (Record (NothingLeft place (period_read handed)) 0) }
+orders_in zero text place handed = record { demands = []; ending = faulty_feed (record { fault = found place handed NothingLeft; layers = 0 }) }
 orders_in (suc n) text place handed = goes_further (λ p. p.demand) (order_at text place handed) (λ p. orders_in n text p.next (handed + 1))
 
 -- the forecast that the words from this place on are; no period takes less than a word

@@ -1,4 +1,4 @@
--- What is known of every word and every period of an order file.
+-- What is known of every word of an order file, and of every period that is read.
 use Rattle.std.specs.Prelude.{◌≡◌, ℕ, ◌+◌, ◌<◌, ◌≤◌, List, length, Ok, Err, Result}
 use Rattle.lots.specs.declared.word.Word.{Word}
 use Rattle.lots.specs.Words.{word_kind, number_of_word}
@@ -11,9 +11,9 @@ abbrev pub WordTold : ℕ → ℕ → List ℕ → Result Word RecordFault → T
 WordTold place handed bs (Ok w) = (4 ≤ length bs) × (w.kind ≡ word_kind bs) × (w.number ≡ number_of_word bs)
 WordTold place handed bs (Err f) = (length bs < 4) × (f ≡ cut_at place handed bs)
 
--- a period that was read from this place of so many bytes, with so many periods handed out before it
-pub record PeriodFits (place handed long : ℕ) (p : Period) : Type 0 where
+-- a period that was read from this place of so many bytes, with so many periods of at most so many handed out before it
+pub record PeriodFits (most place handed long : ℕ) (p : Period) : Type 0 where
   pub demand : p.demand ≤ 1000000
-  pub onward : place + 4 ≤ p.next
+  pub onward : place < p.next
   pub within : p.next ≤ long
-  pub few : handed + 1 < 1073741824
+  pub few : handed + 1 ≤ most

@@ -4,12 +4,11 @@ use Rattle.lots.specs.declared.decimal.Numeral.{Numeral}
 use Rattle.lots.specs.Decimals.{field_at}
 use Rattle.theory.specs.Endings.{faulty_feed}
 use Rattle.feeds.specs.declared.fault.RecordFault.{RecordFault}
-use Rattle.feeds.specs.declared.fault.RecordFault.TheVariants.{OtherLayout, WrongPeriod, DemandTooLarge, NothingLeft, BytesAfterEnd}
-use Rattle.feeds.specs.declared.fault.FeedFault.TheVariants.{Record}
+use Rattle.feeds.specs.declared.fault.RecordFaultKind.TheVariants.{OtherLayout, WrongPeriod, DemandTooLarge, NothingLeft, BytesAfterEnd}
 use Rattle.feeds.specs.declared.line.Front.{Front}
 use Rattle.feeds.specs.declared.line.Front.TheVariants.{Nothing, End, EndAndMore, Other}
 use Rattle.feeds.specs.declared.line.Line.{Line}
-use Rattle.feeds.specs.Faults.{period_read}
+use Rattle.feeds.specs.Faults.{found}
 use Rattle.feeds.specs.Forecasts.{Forecast, goes_further}
 
 -- a line is two numbers of at most 7 digits, a comma behind the first and a line feed behind the second
@@ -35,17 +34,17 @@ front_of bs = cond (length bs == 0) Nothing (cond (end_line bs) (cond (length bs
 
 -- a line at this place, once so many periods were handed out, if nothing is wrong with it
 abbrev pub checked : ℕ → ℕ → Option Line → Result (Option Line) RecordFault
-checked place handed None = Err (OtherLayout place (period_read handed))
+checked place handed None = Err (found place handed OtherLayout)
 checked place handed (Some l) =
     cond (l.period == handed + 1)
-    (cond (nat_le l.demand 1000000) (Ok (Some l)) (Err (DemandTooLarge place (period_read handed))))
-    (Err (WrongPeriod place (period_read handed)))
+    (cond (nat_le l.demand 1000000) (Ok (Some l)) (Err (found place handed DemandTooLarge)))
+    (Err (found place handed WrongPeriod))
 
 -- the record at this place: a line, or none where the forecast ends
 abbrev pub record_of : ℕ → ℕ → List ℕ → Front → Result (Option Line) RecordFault
-record_of place handed bs Nothing = Err (NothingLeft place (period_read handed))
+record_of place handed bs Nothing = Err (found place handed NothingLeft)
 record_of place handed bs End = Ok None
-record_of place handed bs EndAndMore = Err (BytesAfterEnd (place + 4) (period_read handed))
+record_of place handed bs EndAndMore = Err (found (place + 4) handed BytesAfterEnd)
 record_of place handed bs Other = checked place handed (line_at bs)
 
 unfoldable pub record_at : ℕ → ℕ → List ℕ → Result (Option Line) RecordFault
@@ -53,7 +52,7 @@ record_at place handed bs = record_of place handed bs (front_of bs)
 
 -- n lines at most, and then no byte is left
 unfoldable pub forecast_in : ℕ → ℕ → ℕ → List ℕ → Forecast
-forecast_in zero place handed bs = record { demands = []; ending = faulty_feed (Record (NothingLeft place (period_read handed)) 0) }
+forecast_in zero place handed bs = record { demands = []; ending = faulty_feed (record { fault = found place handed NothingLeft; layers = 0 }) }
 forecast_in (suc n) place handed bs = goes_further (λ l. l.demand) (record_at place handed bs) (λ l. forecast_in n (place + l.length) (handed + 1) (drop l.length bs))
 
 -- the forecast that the bytes bs from this place on are, once so many periods were handed out; no line takes less than a byte

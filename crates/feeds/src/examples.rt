@@ -1,8 +1,6 @@
 ghost use Rattle.feeds.specs.Examples.{FeedExamples};
 
 // The definitions come to the worked examples.
-pub fn examples_hold() -> u8
+pub fn examples_hold()
     ensures { FeedExamples }
-{
-    0
-}
+{}

@@ -22,10 +22,12 @@ pub trait Feed {
         ensures others { demands self.new ≡ others (demands self.old) }
         ensures ending { ending self.new ≡ ending self.old }
         ensures onward { reached self.old ≤ reached self.new }
-        ensures small { Small (demands self.old) }
         ensures fits { IfOk result (λ o. IfSome o (λ d. d ≤ 1000000)) }
         ensures ended { demands self.old ≡ [] → self.new ≡ self.old };
 
     fn place(&self) -> usize
         ensures { result ≡ reached self.now };
+
+    // No demand still to come is above the largest.
+    ghost small: { (f : Self) → Small (demands f) };
 }

@@ -1,9 +1,11 @@
 // Feeds hand out the demand of one period after another.
 #![tactic(auto)]
 
+mod cursor;
 pub mod examples;
 pub mod fault;
 pub mod feed;
+mod format;
 mod line;
 pub mod netting;
 pub mod orders;
@@ -12,8 +14,9 @@ pub mod receipt;
 mod supply;
 pub mod text;
 
-pub use fault::{FeedFault, RecordFault};
+pub use fault::{FeedFault, RecordFault, RecordFaultKind};
 pub use feed::Feed;
+pub use format::ByteFeed;
 pub use netting::Netting;
 pub use netting::fault::NettingFault;
 pub use netting::making::NettingRefused;

@@ -14,6 +14,7 @@ pub struct Line {
 }
 
 // The line at the front of the text, if it has the layout of one.
+#[tactic(auto, unfolding(crate::specs::Text::line_at))]
 pub fn line_at(text: &[u8]) -> Option<Line>
     ensures told { result ≡ line_at text.now }
     ensures fits { IfSome result (LineFits text.now) }

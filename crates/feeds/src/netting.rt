@@ -1,6 +1,7 @@
 // The netting layer: over any feed, what stock and receipts leave of its demands; itself a feed.
 ghost use Rattle.std.specs.Prelude.{◌≡◌, Ok, Err, MatchResult};
 ghost use Rattle.feeds.specs.Netting.{net_of, risen, above};
+ghost use Rattle.feeds.specs.SmallDemands.{net_small};
 
 use crate::fault::FeedFault;
 use crate::feed::Feed;
@@ -25,10 +26,9 @@ impl From<Below> for FeedFault {
     ghost from_gives = { λ b r. r ≡ risen b.fault };
 
     fn from(below: Below) -> FeedFault {
-        let FeedFault::Record { fault, layers } = below.fault;
-        FeedFault::Record {
-            fault,
-            layers: layers.saturating_add(1),
+        FeedFault {
+            layers: below.fault.layers.saturating_add(1),
+            ..below.fault
         }
     }
 }
@@ -60,4 +60,6 @@ impl<F: Feed> Feed for Netting<F> {
     fn place(&self) -> usize {
         self.feed.place()
     }
+
+    ghost small = { λ n. net_small _ _ _ _ (F.small n.feed) };
 }

@@ -1,68 +1,42 @@
-// The order feed: a forecast in words of 32 bits, read straight from the caller's bytes.
-ghost use Rattle.std.specs.Prelude.{◌≡◌, ◌+◌, ◌<◌, ◌≤◌, length, IfSome, IfOk};
-ghost use Rattle.feeds.specs.Periods.{PeriodFits};
+// The order format: a forecast in words of 32 bits.
+ghost use Rattle.std.specs.Prelude.{◌≡◌, ◌<◌};
+ghost use Rattle.std.proofs.Common.{rules};
 ghost use Rattle.feeds.specs.Orders.{order_at, orders};
+ghost use Rattle.feeds.specs.SmallDemands.{orders_small};
 
-use crate::fault::{FeedFault, RecordFault};
-use crate::feed::Feed;
-use crate::period::{Period, opens_period, read_period, word_due};
+use crate::cursor::Cursor;
+use crate::fault::RecordFault;
+use crate::format::{ByteFeed, Format};
+use crate::period::Period;
 
-// The caller's bytes, the place of the word that is due, and how many periods were handed out.
-#[derive(Debug, Drop)]
-pub struct OrderFeed<'a> {
-    text: &'a [u8],
-    place: usize,
-    handed: u32,
-    ghost within: { place ≤ length text.now },
-    ghost few: { handed < 1073741824 },
+// Words that open a period, order and cancel in it, and end the file.
+#[derive(Clone, Copy, Debug)]
+pub struct OrderWords;
+
+pub type OrderFeed<'a> = ByteFeed<'a, OrderWords>;
+
+// The period at the cursor, or none where the file ends.
+#[tactic(auto, unfolding(crate::specs::Orders::order_at))]
+fn period_due(at: &Cursor<'_>) -> Result<Option<Period>, RecordFault>
+    ensures { result ≡ order_at at.now.text.now at.now.place at.now.handed }
+{
+    if at.opens_period(at.word()?)? {
+        return Ok(Some(at.past(4).read_period()?));
+    }
+    Ok(None)
 }
 
-impl<'a> OrderFeed<'a> {
-    // The whole forecast that the words are.
-    pub fn new(text: &'a [u8]) -> OrderFeed<'a>
-        ensures whole { orders result.text.now result.place result.handed ≡ orders text.now 0 0 }
-        ensures place { result.place ≡ 0 }
-    {
-        OrderFeed {
-            text,
-            place: 0,
-            handed: 0,
-        }
+impl Format for OrderWords {
+    ghost forecast = { orders };
+
+    ghost most = { 1073741823 };
+
+    #[tactic(auto, using(crate::proofs::Orderly::opened, crate::proofs::Orderly::order_read))]
+    fn read(at: &Cursor<'_>) -> Result<Option<Period>, RecordFault> {
+        period_due(at)
     }
 
-    // The period at the place, or none where the file ends.
-    fn read_record(&self) -> Result<Option<Period>, RecordFault>
-        ensures told { result ≡ order_at self.now.text.now self.now.place self.now.handed }
-        ensures fits { IfOk result (λ o. IfSome o (PeriodFits self.now.place self.now.handed (length self.now.text.now))) }
-    {
-        let place = self.place;
-        let rest = &self.text[place..];
-        let word = word_due(rest, place, self.handed)?;
-        if opens_period(word, rest.len(), place, self.handed)? {
-            let period = read_period(self.text, place + 4, self.handed)?;
-            return Ok(Some(period));
-        }
-        Ok(None)
-    }
-}
+    ghost small = { orders_small };
 
-impl Feed for OrderFeed<'_> {
-    ghost demands = { λ f. (orders f.text.now f.place f.handed).demands };
-
-    ghost ending = { λ f. (orders f.text.now f.place f.handed).ending };
-
-    ghost reached = { λ f. f.place };
-
-    fn next(&mut self) -> Result<Option<u32>, FeedFault> {
-        let Some(period) = self.read_record()? else {
-            return Ok(None);
-        };
-        self.place = period.next;
-        self.handed += 1;
-        Ok(Some(period.demand))
-    }
-
-    fn place(&self) -> usize {
-        self.place
-    }
+    ghost few = { Prim.search rules };
 }

@@ -1,6 +1,6 @@
 use costs::{ConstantCosts, CostFault, CostLine, CostModel, DatedCosts};
 use feeds::{Feed, Netting, OrderFeed, TextFeed};
-use lots::Lot;
+use lots::{Lot, Refusal};
 use lots::decimal::push_decimal;
 use planner::{Answer, Call, ReadRefusal, Series, plan_forecast, run_series};
 use std::alloc::{AllocError, Global};

@@ -3,7 +3,7 @@ use Rattle.std.proofs.lemmas.Result.{IfOk-weaker}
 use Rattle.costs.specs.Constant.{constant_price}
 use Rattle.costs.specs.Constants.{constant_lawful}
 use Rattle.feeds.specs.Forecasts.{Forecast}
-use Rattle.feeds.proofs.Texts.{small}
+use Rattle.feeds.specs.SmallDemands.{text_small as small}
 use Rattle.planner.specs.Answers.{call_of}
 use Rattle.rolling_report.specs.Replaying.{replay_due, replay_at, replayed}
 use Rattle.rolling_report.proofs.Replayed.{series_fits, series_printed}

@@ -2,7 +2,7 @@ use Rattle.std.proofs.Common.{Ok, Err, sym, ap, ◌∙◌, arith}
 use Rattle.std.proofs.lemmas.Result.{err_from_is_err_and, IfOk-from_err}
 use Rattle.feeds.specs.Feeding.{others}
 use Rattle.feeds.specs.Netting.{net_of, above}
-use Rattle.feeds.proofs.Layers.{told_fault, told_finished, told_demand, net_small, net_none, tell_fault, tell_finished, tell_demand, none_left, not_none, first_small}
+use Rattle.feeds.proofs.Layers.{told_fault, told_finished, told_demand, net_none, tell_fault, tell_finished, tell_demand, none_left, not_none, first_small}
 use Rattle.feeds.proofs.netting.NettingFeed.next.Goals as goal
 
 pub returns-in_err-gross : goal.returns-in_err-gross
@@ -15,7 +15,6 @@ returns-in_err-gross g c =
       others = none_left _ _ (net_none _ _ _ _ is.0) (net_none _ _ _ _ (below.others ∙ ap others is.0));
       ending = ap above below.ending;
       onward = below.onward;
-      small = net_small _ _ _ _ below.small;
       fits = IfOk-from_err _ _ c.from_residual.ensures.0;
       ended = λ _. ap (λ f. record { feed = f; supply = c.args.self.now.supply }) (below.ended is.0);
     }
@@ -29,7 +28,6 @@ returns-in_default g c =
       others = none_left _ _ (net_none _ _ _ _ is.0) (net_none _ _ _ _ (below.others ∙ ap others is.0));
       ending = ap above below.ending;
       onward = below.onward;
-      small = net_small _ _ _ _ below.small;
       fits = tt;
       ended = λ _. ap (λ f. record { feed = f; supply = c.args.self.now.supply }) (below.ended is.0);
     }
@@ -44,7 +42,6 @@ returns g c =
       others = ap (net_of c.meet.new.self) below.others ∙ sym (ap others whole);
       ending = ap above below.ending;
       onward = below.onward;
-      small = net_small _ _ _ _ below.small;
-      fits = omega (arith, c.meet.ensures.less, first_small _ _ _ is below.small);
+      fits = omega (arith, c.meet.ensures.less, first_small _ _ _ is (g.met.F.Feed.small c.args.self.now.feed));
       ended = λ none. absurd (not_none _ _ _ whole none);
     }
