@@ -1,5 +1,5 @@
 -- A horizon's plan, read back from its rows.
-use Rattle.std.proofs.Common.{◌≡◌, ℕ, zero, suc, ◌+◌, ◌-◌, ◌<◌, ◌≤◌, List, [], ◌∷◌, ◌++◌, map, length, Some, None, Option, sym, refl, ap, ◌∙◌, subst, ap₂, inl, inr, append_assoc, append-nil, arith}
+use Rattle.std.proofs.Common.{◌≡◌, ℕ, zero, suc, ◌+◌, ◌-◌, ◌<◌, ◌≤◌, List, [], length, Some, None, Option, sym, refl, ap, ◌∙◌, subst, ap₂, inl, inr, arith}
 use mathlib.Core.Logic.{∥∥₁_elim}
 use native.Mathlib.Bridge.{le_prop}
 use Rattle.std.specs.Option.{option_map}
@@ -9,8 +9,7 @@ use Rattle.theory.specs.Regeneration.{next, after, end_of}
 use Rattle.theory.proofs.Sums.{over_split}
 use Rattle.theory.proofs.Laws.{last_le, least_lot}
 use Rattle.theory.proofs.Plans.{plan_none, plan_ind, plan_ordered, lot_filled}
-use Rattle.theory.proofs.Proving.{next_of_plan, next_own, rest_by_lot, after_skip}
-use Rattle.lots.specs.Lots.{Terms}
+use Rattle.theory.proofs.Proving.{next_of_plan, next_own, after_skip}
 use Rattle.planner.specs.declared.rows.row.Span.{Span}
 use Rattle.planner.specs.Lots.{span_of, Spans}
 use Rattle.planner.proofs.Soundness.{over_bound}
@@ -147,26 +146,6 @@ next_lot c after n s e = go (next after (plan c n)) refl
         let from : y.from ≡ s.from = sym (ap (λ x. x.from) is) in
         let through : y.through ≡ s.through = sym (ap (λ x. x.through) is) in
         (y, q, (next_own c after n y q).3.is_lot ∙ ap₂ (lot c) from through, through)
-
--- handing out the next lot leaves those after its end
-pub rest_step : (c : Case) (n a : ℕ) (s : Span) (hand : Lot → Terms) (done all : List Terms) (new : Terms) →
-    Some s ≡ option_map span_of (next a (plan c n)) → new ≡ hand (lot c s.from s.through) →
-    done ++ map hand (after a (plan c n)) ≡ all → (done ++ (new ∷ [])) ++ map hand (after s.through (plan c n)) ≡ all
-rest_step c n a s hand done all new found is so_far =
-    let f = next_lot c a n s found in
-    let rest : after a (plan c n) ≡ f.0 ∷ after s.through (plan c n) =
-    (rest_by_lot c n a).1 f.0 f.1 ∙ ap (λ k. f.0 ∷ after k (plan c n)) f.3 in
-    let head : new ≡ hand f.0 = is ∙ ap hand (sym f.2) in
-    append_assoc done (new ∷ []) (map hand (after s.through (plan c n)))
-    ∙ ap (λ x. done ++ (x ∷ map hand (after s.through (plan c n)))) head
-    ∙ ap (λ (ys : List Lot). done ++ map hand ys) (sym rest) ∙ so_far
-
--- where nothing is found, nothing is left
-pub rest_done : (c : Case) (n a : ℕ) (hand : Lot → Terms) (done all : List Terms) → None ≡ option_map span_of (next a (plan c n)) →
-    done ++ map hand (after a (plan c n)) ≡ all → done ≡ all
-rest_done c n a hand done all none so_far =
-    let empty : after a (plan c n) ≡ [] = (rest_by_lot c n a).0 (unmapped _ none) in
-    sym (append-nil done) ∙ ap (λ (ys : List Lot). done ++ map hand ys) (sym empty) ∙ so_far
 
 -- a span after a later period is one after the base
 pub spans_base : (w : Window) (a : ℕ) (s : Span) → w.base ≤ a → Spans w a s → Spans w w.base s

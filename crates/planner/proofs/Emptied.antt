@@ -1,5 +1,5 @@
 -- Emptying a closed planner, lot by lot.
-use Rattle.std.proofs.Common.{◌≡◌, ℕ, List, [], ◌∷◌, ◌++◌, map, Some, None, Ok, Err, Option, Result, sym, refl, ap, ◌∙◌, subst, append_assoc, append-nil}
+use Rattle.std.proofs.Common.{◌≡◌, ℕ, List, [], ◌∷◌, ◌++◌, map, Some, None, Ok, Err, Option, sym, refl, ap, ◌∙◌, subst, append_assoc, append-nil}
 use Rattle.std.proofs.lemmas.List.{map_push}
 use Rattle.lots.specs.Lots.{terms}
 use Rattle.lots.specs.declared.lot.Lot.{Lot}
@@ -9,18 +9,17 @@ use Rattle.theory.specs.Recursion.{Case, plan}
 use Rattle.theory.specs.Regeneration.{next}
 use Rattle.theory.specs.Series.{Handed, Rests}
 use Rattle.planner.specs.declared.refusals.RestRefusal.{RestRefusal}
-use Rattle.planner.specs.declared.rows.Rows.{Rows}
 use Rattle.planner.specs.Answers.{handed_lot}
-use Rattle.planner.specs.Describing.{reading, Describes}
+use Rattle.planner.specs.Describing.{Window, reading, Describes}
 use Rattle.planner.specs.Lots.{handed}
-use Rattle.planner.specs.Resting.{rest_of, rest_due, rest_told}
-use Rattle.planner.specs.Windows.{window}
+use Rattle.planner.specs.Resting.{rest_of, TellsRest, EmptiesTo}
 use Rattle.planner.proofs.Feeding.{never}
 use Rattle.planner.proofs.Taking.{as_handed}
 
--- what a rest told is what it was due
-abbrev pub Due : Rows → ℕ → Result Lot RestRefusal → Type 0
-Due r after told = (c : Case) → Describes c (window r) → rest_told told ≡ rest_due c (reading (window r)) after
+-- the lots done, with any rest behind them, are a rest from the start on
+abbrev pub Resting : Window → ℕ → ℕ → List Lot → Type 0
+Resting w start after done =
+    (c : Case) → Describes c w → (tail : List Handed) → Rests c (reading w) after tail → Rests c (reading w) start (map handed_lot done ++ tail)
 
 -- a lot that was told is the plan's next
 given : (t : ℕ) (x : Option recursion.Lot) (y : Lot) → Ok (terms y) ≡ rest_of t x → (x ≡ Some (handed_lot y).lot) × (y.evidence ≡ t)
@@ -34,22 +33,19 @@ none t None f e = refl
 none t (Some z) f e = absurd (never (cc))
 
 -- one lot more
-pub rests_more : (r s : Rows) (same : s ≡ r) (start after through : ℕ) (y : Lot) (done new : List Lot) →
-    ((c : Case) → Describes c (window r) → (tail : List Handed) → Rests c (reading (window r)) after tail → Rests c (reading (window r)) start (map handed_lot done ++ tail)) →
-    Due s after (Ok y) → through ≡ y.through → new ≡ done ++ (y ∷ []) →
-    (c : Case) → Describes c (window r) → (tail : List Handed) → Rests c (reading (window r)) through tail → Rests c (reading (window r)) start (map handed_lot new ++ tail)
-rests_more r s same start after through y done new so_far due ends listed c h tail rest =
-    let now = given (reading (window r)) (next after (plan c (reading (window r)))) y (subst (λ q. Due q after (Ok y)) same due c h) in
-    let more = so_far c h (handed_lot y ∷ tail) (now.0, now.1, subst (λ n. Rests c (reading (window r)) n tail) ends rest) in
+pub rests_more : (w : Window) (start after through : ℕ) (y : Lot) (done new : List Lot) →
+    Resting w start after done → TellsRest w after (Ok y) → through ≡ y.through → new ≡ done ++ (y ∷ []) → Resting w start through new
+rests_more w start after through y done new so_far due ends listed c h tail rest =
+    let now = given (reading w) (next after (plan c (reading w))) y (due c h) in
+    let more = so_far c h (handed_lot y ∷ tail) (now.0, now.1, subst (λ n. Rests c (reading w) n tail) ends rest) in
     let joined : map handed_lot new ++ tail ≡ map handed_lot done ++ (handed_lot y ∷ tail) =
     ap (λ (ys : List Lot). map handed_lot ys ++ tail) listed ∙ ap (λ (hs : List Handed). hs ++ tail) (map_push handed_lot done y)
     ∙ append_assoc (map handed_lot done) (handed_lot y ∷ []) tail in
-    subst (Rests c (reading (window r)) start) (sym joined) more
+    subst (Rests c (reading w) start) (sym joined) more
 
 -- and no more
-pub rests_done : (r s : Rows) (same : s ≡ r) (start after : ℕ) (f : RestRefusal) (done : List Lot) →
-    ((c : Case) → Describes c (window r) → (tail : List Handed) → Rests c (reading (window r)) after tail → Rests c (reading (window r)) start (map handed_lot done ++ tail)) →
-    Due s after (Err f) → (c : Case) → Describes c (window r) → Rests c (reading (window r)) start (map handed_lot done)
-rests_done r s same start after f done so_far due c h =
-    subst (Rests c (reading (window r)) start) (append-nil (map handed_lot done))
-    (so_far c h [] (none (reading (window r)) (next after (plan c (reading (window r)))) f (subst (λ q. Due q after (Err f)) same due c h)))
+pub rests_done : (w : Window) (start after : ℕ) (f : RestRefusal) (done : List Lot) → Resting w start after done →
+    TellsRest w after (Err f) → EmptiesTo w start done
+rests_done w start after f done so_far due c h =
+    subst (Rests c (reading w) start) (append-nil (map handed_lot done))
+    (so_far c h [] (none (reading w) (next after (plan c (reading w))) f (due c h)))

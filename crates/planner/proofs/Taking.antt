@@ -1,16 +1,16 @@
 -- The lot that is proved can be handed out, and the window moved behind it.
-use Rattle.std.proofs.Common.{◌≡◌, ℕ, ◌-◌, ◌<◌, ◌≤◌, List, [], ◌∷◌, ◌++◌, length, drop, Some, None, sym, ap, ◌∙◌, subst, arith, length-drop}
+use Rattle.std.proofs.Common.{◌≡◌, ℕ, ◌-◌, ◌<◌, ◌≤◌, List, [], ◌∷◌, ◌++◌, length, Some, None, sym, ap, ◌∙◌, subst, arith, length-drop}
 use mathlib.Core.Logic.{∥∥₁_elim}
 use native.Mathlib.Nat.{ℕ_set}
 use native.Mathlib.Bridge.{le_prop}
 use Rattle.feeds.specs.declared.fault.FeedFault.{FeedFault}
+use Rattle.feeds.specs.Forecasts.{Forecast}
 use Rattle.lots.specs.Lots.{Terms, terms}
 use Rattle.lots.specs.declared.lot.Lot as code
 use Rattle.lots.specs.declared.lot.LotKind.TheVariants.{Frozen}
-use Rattle.theory.specs.Endings.{Ending}
-use Rattle.theory.specs.Recursion.{Case, case_of, last, Lot, lot}
+use Rattle.theory.specs.Recursion.{Case, last, Lot, lot}
 use Rattle.theory.specs.Regeneration.{proves, Proved, end_of}
-use Rattle.theory.specs.Series.{take_call, Handed, none_proved, given_lot, refused_call, Entry, read_by, given_by, periods_read, taken, lots, base, due_take, due_at, due_answer}
+use Rattle.theory.specs.Series.{take_call, Handed, none_proved, given_lot, refused_call, Entry, read_by, given_by, periods_read, taken, lots, base, due_take, due_at}
 use Rattle.theory.proofs.Laws.{last_le}
 use Rattle.theory.proofs.Kept.{end_push}
 use Rattle.theory.proofs.Proving.{next_own, proves_sound, proved_ends}
@@ -20,9 +20,10 @@ use Rattle.planner.specs.Answers.{handed_lot}
 use Rattle.planner.specs.Describing.{Window, row_after, reading, Describes, Sound, moved_to}
 use Rattle.planner.specs.Lots.{span_of, handed, Spans}
 use Rattle.planner.specs.Proving.{TellsProved}
-use Rattle.planner.specs.Tracking.{Tracks}
+use Rattle.planner.specs.Standing.{Charges, case_at}
+use Rattle.planner.specs.Tracking.{Outlook, Tracks, beyond}
 use Rattle.planner.proofs.Backward.{last_is}
-use Rattle.planner.proofs.Following.{lot_behind, none_behind, proves_here, proved_here}
+use Rattle.planner.proofs.Following.{due_after, lot_behind, none_behind, proves_here, proved_here}
 use Rattle.planner.proofs.Moving.{moved_describes}
 
 -- what a case says of the lot whose span is told
@@ -90,37 +91,36 @@ module _ (w : Window) (sound : ∥ Sound w ∥₁) (s : Span) (told : TellsProve
 abbrev pub as_handed : Terms → Handed
 as_handed t = record { lot = record { from = t.from; through = t.through; amount = t.amount; costs = t.cost }; evidence = t.evidence }
 
-module _ (K : ℕ → ℕ) (V : ℕ → ℕ → ℕ) (ds : List ℕ) (ending : Ending FeedFault) (es : List (Entry FeedFault)) (w : Window) (left : List ℕ) (end : Ending FeedFault)
-    (tr : Tracks K V ds ending es w left end) where
-  pub untaken : TellsProved w None → refused_call none_proved ≡ due_answer K V ds ending es take_call
+module _ (c : Charges) (all : Forecast) (es : List (Entry FeedFault)) (o : Outlook) (tr : Tracks c all es o) where
+  pub untaken : TellsProved o.window None → refused_call none_proved ≡ due_after c all es take_call
   unfolding due_at due_take
-  untaken h = sym (ap (due_take (periods_read es)) (none_behind _ (proved_here K V ds ending es w left end tr None h)))
+  untaken h = sym (ap (due_take (periods_read es)) (none_behind _ (proved_here c all es o tr None h)))
 
-  pub takes : (s : Span) → TellsProved w (Some s) → (y : code.Lot) →
-      ((c : Case) → Describes c w → terms y ≡ handed Frozen (reading w) (lot c s.from s.through)) → (v : Window) → v ≡ moved_to s.through w →
-      Tracks K V ds ending (es ++ (record { call = take_call; answer = given_lot (handed_lot y) } ∷ [])) v left end
+  pub takes : (s : Span) → TellsProved o.window (Some s) → (y : code.Lot) →
+      ((k : Case) → Describes k o.window → terms y ≡ handed Frozen (reading o.window) (lot k s.from s.through)) → (v : Window) → v ≡ moved_to s.through o.window →
+      Tracks c all (es ++ (record { call = take_call; answer = given_lot (handed_lot y) } ∷ [])) (record o { window = v })
   unfolding due_at due_take read_by given_by lot
   takes s told y is v moved =
-      let c : Case = case_of K V ds in
+      let k : Case = case_at c all in
+      let w : Window = o.window in
       let t : ℕ = periods_read es in
-      let z : Lot = lot c s.from s.through in
-      let h : Describes c w = tr.describes in
+      let z : Lot = lot k s.from s.through in
+      let h : Describes k w = tr.describes in
       let e : Entry FeedFault = record { call = take_call; answer = given_lot (handed_lot y) } in
       let given : handed_lot y ≡ record { lot = z; evidence = t } =
-      ap as_handed (is c h) ∙ ap (λ n. record { lot = z; evidence = n }) tr.read in
-      let there : proves c (base es) t ≡ Some z = sym (proves_here K V ds ending es w left end tr) ∙ proved_lot c w h s told in
-      let due : given_lot (handed_lot y) ≡ due_answer K V ds ending es take_call = ap given_lot given ∙ sym (ap (due_take t) there) in
+      ap as_handed (is k h) ∙ ap (λ n. record { lot = z; evidence = n }) tr.read in
+      let there : proves k (base es) t ≡ Some z = sym (proves_here c all es o tr) ∙ proved_lot k w h s told in
+      let due : given_lot (handed_lot y) ≡ due_after c all es take_call = ap given_lot given ∙ sym (ap (due_take t) there) in
       let same : periods_read (es ++ (e ∷ [])) ≡ t = omega (arith, read_push es e) in
       let kept : taken (es ++ (e ∷ [])) ≡ taken es ++ (handed_lot y ∷ []) = taken_push es e in
-      let onward : w.base ≤ s.through = omega (arith, starts c w h s told, goes_forward c w h s told) in
+      let onward : w.base ≤ s.through = omega (arith, starts k w h s told, goes_forward k w h s told) in
       let still : reading v ≡ reading w =
-      ap reading moved ∙ omega (arith, length-drop (s.through - w.base) w.rows, ends_before c w h s told) in
+      ap reading moved ∙ omega (arith, length-drop (s.through - w.base) w.rows, ends_before k w h s told) in
       record {
-        ran = ran_push K V ds ending es e tr.ran due;
+        ran = ran_push c.K c.V all.demands all.ending es e tr.ran due;
         read = still ∙ tr.read ∙ sym same;
-        since = ap (λ x. x.base) moved ∙ sym (ap (λ (hs : List Handed). end_of 0 (lots hs)) kept ∙ end_push 0 (taken es) (handed_lot y) ∙ ap (λ n. n.through) (is c h));
-        describes = subst (Describes c) (sym moved) (moved_describes c w s.through h onward (before_last c w h s told));
+        since = ap (λ x. x.base) moved ∙ sym (ap (λ (hs : List Handed). end_of 0 (lots hs)) kept ∙ end_push 0 (taken es) (handed_lot y) ∙ ap (λ n. n.through) (is k h));
+        describes = subst (Describes k) (sym moved) (moved_describes k w s.through h onward (before_last k w h s told));
         within = omega (arith, tr.within);
-        rest = tr.rest ∙ ap (λ k. drop k ds) (sym same);
-        ends = tr.ends;
+        left = tr.left ∙ ap (λ n. beyond n all) (sym same);
       }

@@ -1,5 +1,5 @@
 -- The planner's answers, in the words of the theory of series.
-use Rattle.std.specs.Prelude.{◌≡◌, Bool, Ok, Err, Result}
+use Rattle.std.specs.Prelude.{◌≡◌, Bool, Ok, Err, IfOk, Result}
 use Rattle.feeds.specs.declared.fault.FeedFault.{FeedFault}
 use Rattle.lots.specs.declared.lot.Lot.{Lot}
 use Rattle.theory.specs.Series as series
@@ -11,7 +11,7 @@ use Rattle.planner.specs.declared.refusals.TakeRefusal.TheVariants.{NoneProved}
 use Rattle.planner.specs.declared.calls.Call.{Call}
 use Rattle.planner.specs.declared.calls.Call.TheVariants.{Read as CallsRead, Take as CallsTake}
 use Rattle.planner.specs.declared.calls.Answer.{Answer}
-use Rattle.planner.specs.declared.calls.Answer.TheVariants.{Given as HandsOut, Accepted as Reads, NotRead, NotTaken}
+use Rattle.planner.specs.declared.calls.Answer.TheVariants.{Read as OfRead, Take as OfTake}
 use Rattle.planner.specs.declared.calls.Entry.{Entry}
 use Rattle.lots.specs.declared.lot.LotKind.TheVariants.{Frozen}
 
@@ -48,10 +48,8 @@ call_of CallsTake = series.take_call
 
 -- an answer, as the theory has it
 abbrev pub answer_of : Answer → series.Answer FeedFault
-answer_of (HandsOut y) = given_lot (handed_lot y)
-answer_of (Reads proved) = accepted_read proved
-answer_of (NotRead r) = refused_call (read_refusal r)
-answer_of (NotTaken r) = refused_call (take_refusal r)
+answer_of (OfRead result) = read_answer result
+answer_of (OfTake result) = take_answer result
 
 -- a call with its answer, as the theory has it
 abbrev pub entry_of : Entry → series.Entry FeedFault
@@ -59,7 +57,5 @@ entry_of e = record { call = call_of e.call; answer = answer_of e.answer }
 
 -- a lot that an answer hands out is frozen
 abbrev pub HandsOutFrozen : Answer → Type 0
-HandsOutFrozen (HandsOut y) = y.kind ≡ Frozen
-HandsOutFrozen (Reads proved) = Unit {0}
-HandsOutFrozen (NotRead r) = Unit {0}
-HandsOutFrozen (NotTaken r) = Unit {0}
+HandsOutFrozen (OfRead result) = Unit {0}
+HandsOutFrozen (OfTake result) = IfOk result (λ y. y.kind ≡ Frozen)

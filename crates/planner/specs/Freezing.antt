@@ -1,29 +1,27 @@
 -- What is left once every read and take that could be made was made.
-use Rattle.std.specs.Prelude.{◌≡◌, ℕ, List, [], ◌++◌, map}
-use Rattle.feeds.specs.declared.fault.FeedFault.{FeedFault}
+use Rattle.std.specs.Prelude.{◌≡◌, List, [], ◌++◌, map}
+use Rattle.costs.specs.declared.model.CostModel as costs
+use Rattle.feeds.specs.declared.feed.Feed as feeds
+use Rattle.feeds.specs.Forecasts.{Forecast}
 use Rattle.lots.specs.Lots.{terms}
 use Rattle.lots.specs.declared.lot.Lot.{Lot}
 use Rattle.theory.specs.Eager.{eager}
-use Rattle.theory.specs.Endings.{Ending}
-use Rattle.theory.specs.Recursion.{case_of}
 use Rattle.theory.specs.Series.{Handed}
-use Rattle.planner.specs.declared.planner.Planner.{Planner}
 use Rattle.planner.specs.declared.refusals.ReadRefusal.{ReadRefusal}
 use Rattle.planner.specs.Answers.{read_refusal}
 use Rattle.planner.specs.Describing.{Window, reading, Describes}
 use Rattle.planner.specs.Rolling.{frozen_terms}
-use Rattle.planner.specs.Tracking.{Tracks}
-use Rattle.planner.specs.Windows.{window}
+use Rattle.planner.specs.Standing.{Standing, Charges, charges, case_at}
+use Rattle.planner.specs.Tracking.{Tracks, outlook}
 
 -- the lots joined those before, as eager planning takes them, and it stops here with this refusal
-pub record FrozenAs (K : ℕ → ℕ) (V : ℕ → ℕ → ℕ) (ds : List ℕ) (ending : Ending FeedFault) (before : List Lot) (refusal : ReadRefusal) (now : List Lot) (w : Window) : Type 0 where
+pub record FrozenAs (c : Charges) (all : Forecast) (before : List Lot) (refusal : ReadRefusal) (now : List Lot) (w : Window) : Type 0 where
   pub taken : List Handed
   pub listed : map terms now ≡ map terms before ++ map frozen_terms taken
-  pub describes : Describes (case_of K V ds) w
-  pub eagerly : eager K V ds ending ≡ record { lots = taken; read = reading w; base = w.base; stop = read_refusal refusal }
+  pub describes : Describes (case_at c all) w
+  pub eagerly : eager c.K c.V all.demands all.ending ≡ record { lots = taken; read = reading w; base = w.base; stop = read_refusal refusal }
 
--- the same for every feed that the planner may have begun with, if nothing was called yet
-abbrev pub FrozenAll : {F M : Type 0} → (ℕ → ℕ) → (ℕ → ℕ → ℕ) → Planner F M → List ℕ → Ending FeedFault → List Lot → ReadRefusal → List Lot → Planner F M → Type 0
-FrozenAll K V planner left end before refusal now later =
-    (ds : List ℕ) (ending : Ending FeedFault) → Tracks K V ds ending [] (window planner.rows) left end →
-    FrozenAs K V ds ending before refusal now (window later.rows)
+-- the same for every forecast that the planner may have begun with, if nothing was called yet
+abbrev pub FrozenAll : {F M : Type 0} → feeds.Ghosts F → costs.Ghosts M → Standing F M → List Lot → ReadRefusal → List Lot → Standing F M → Type 0
+FrozenAll f m p before refusal now q =
+    (all : Forecast) → Tracks (charges m p.model) all [] (outlook f p) → FrozenAs (charges m p.model) all before refusal now q.window

@@ -1,12 +1,12 @@
 pub mod Describing
 pub mod Windows
+pub mod Standing
 pub mod Lots
 pub mod Whole
 pub mod Refusals
 pub mod Answers
 pub mod Proving
 pub mod Tracking
-pub mod Unchanged
 pub mod Resting
 pub mod Runs
 pub mod Rolling

@@ -1,13 +1,15 @@
 -- What a closed planner hands out.
-use Rattle.std.specs.Prelude.{◌≡◌, ℕ, Some, None, Ok, Err, Option, Result}
+use Rattle.std.specs.Prelude.{◌≡◌, ℕ, List, map, Some, None, Ok, Err, Option, Result}
 use Rattle.lots.specs.Lots.{Terms, terms}
 use Rattle.lots.specs.declared.lot.Lot.{Lot}
 use Rattle.lots.specs.declared.lot.LotKind.TheVariants.{Closing}
 use Rattle.theory.specs.Recursion as recursion
 use Rattle.theory.specs.Regeneration.{next}
-use Rattle.planner.specs.declared.closed.Closed.{Closed}
+use Rattle.theory.specs.Series.{Rests}
 use Rattle.planner.specs.declared.refusals.RestRefusal.{RestRefusal}
 use Rattle.planner.specs.declared.refusals.RestRefusal.TheVariants.{NoneLeft}
+use Rattle.planner.specs.Answers.{handed_lot}
+use Rattle.planner.specs.Describing.{Window, reading, Describes}
 use Rattle.planner.specs.Lots.{handed}
 
 -- a plan's next lot as closing, with the periods read as evidence, or the refusal that none is left
@@ -29,9 +31,10 @@ abbrev pub rest_after : Result Lot RestRefusal → ℕ → ℕ
 rest_after (Ok y) after = y.through
 rest_after (Err r) after = after
 
--- a closed planner has moved to this period, and is otherwise as it was
-pub record Left {F M : Type 0} (before : Closed F M) (through : ℕ) (later : Closed F M) : Type 0 where
-  pub feed : later.feed ≡ before.feed
-  pub model : later.model ≡ before.model
-  pub rows : later.rows ≡ before.rows
-  pub after : later.after ≡ through
+-- a rest tells what it is due, in every case that the window describes
+abbrev pub TellsRest : Window → ℕ → Result Lot RestRefusal → Type 0
+TellsRest w after told = (c : recursion.Case) → Describes c w → rest_told told ≡ rest_due c (reading w) after
+
+-- these lots are all that is left, in every case that the window describes
+abbrev pub EmptiesTo : Window → ℕ → List Lot → Type 0
+EmptiesTo w after lots = (c : recursion.Case) → Describes c w → Rests c (reading w) after (map handed_lot lots)

@@ -1,6 +1,7 @@
 -- Planning a whole forecast period by period, as the printing program does.
-use Rattle.std.specs.Prelude.{ℕ, List, [], ◌++◌, map, Some, None, Option}
+use Rattle.std.specs.Prelude.{◌≡◌, ℕ, List, [], ◌++◌, map, Some, None, Option}
 use Rattle.feeds.specs.declared.fault.FeedFault.{FeedFault}
+use Rattle.feeds.specs.Forecasts.{Forecast}
 use Rattle.lots.specs.Lots.{Terms}
 use Rattle.lots.specs.declared.lot.LotKind.TheVariants.{Frozen, Closing}
 use Rattle.theory.specs.Eager.{Outcome, eager}
@@ -11,6 +12,7 @@ use Rattle.theory.specs.Series.{Handed, Refusal, none_proved, lot_waits, window_
 use Rattle.planner.specs.declared.refusals.ReadRefusal.{ReadRefusal}
 use Rattle.planner.specs.declared.refusals.ReadRefusal.TheVariants.{LotWaits, WindowFull, LimitReached, Feed}
 use Rattle.planner.specs.Lots.{handed}
+use Rattle.planner.specs.Standing.{Charges}
 
 -- a lot taken is handed out as frozen
 abbrev pub frozen_terms : Handed → Terms
@@ -43,3 +45,7 @@ rolled_lots K V ds ending =
 -- why the forecast was not read to its end, if it was not
 abbrev pub rolled_stop : (ℕ → ℕ) → (ℕ → ℕ → ℕ) → List ℕ → Ending FeedFault → Option ReadRefusal
 rolled_stop K V ds ending = stop_of (eager K V ds ending).stop
+
+-- lots and stop are those of a forecast planned at these charges
+abbrev pub RolledOut : Charges → Forecast → List Terms → Option ReadRefusal → Type 0
+RolledOut c all lots stop = (lots ≡ rolled_lots c.K c.V all.demands all.ending) × (stop ≡ rolled_stop c.K c.V all.demands all.ending)

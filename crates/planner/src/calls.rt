@@ -8,16 +8,14 @@ pub enum Call {
     Take,
 }
 
+// What the call itself gives back.
 #[derive(Clone, Copy)]
 pub enum Answer {
-    // A take handed out this lot.
-    Given(Lot),
-    // A read took a period from the feed; is a lot proved now?
-    Accepted(bool),
-    NotRead(ReadRefusal),
-    NotTaken(TakeRefusal),
+    Read(Result<bool, ReadRefusal>),
+    Take(Result<Lot, TakeRefusal>),
 }
 
+// The call stands beside its answer, so that a record tells what was asked, and not only which kind of answer came.
 #[derive(Clone, Copy)]
 pub struct Entry {
     pub call: Call,

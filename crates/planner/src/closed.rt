@@ -1,7 +1,6 @@
 // A closed planner reads no more; it only hands out the rest of its plan.
-ghost use Rattle.std.specs.Prelude.{◌≤◌};
-
 use crate::rows::Rows;
+use std::marker::Model;
 
 mod resting;
 
@@ -12,5 +11,17 @@ pub struct Closed<F, M> {
     rows: Rows,
     // The end of the last lot handed out.
     after: u32,
-    ghost onward: { rows.base ≤ after },
+}
+
+// Callers see what is left; lots are handed out from the base on.
+impl<F, M> Model for Closed<F, M> {
+    ghost use Rattle.std.specs.Prelude.{◌≤◌};
+    ghost use Rattle.planner.specs.Standing.{Leaving};
+    ghost use Rattle.planner.specs.Windows.{window};
+
+    ghost Value = { Leaving F M };
+
+    ghost view = { λ p. record { feed = p.feed; model = p.model; window = window p.rows; after = p.after } };
+
+    ghost invariant = { λ p. p.rows.base ≤ p.after };
 }

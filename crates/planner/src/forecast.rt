@@ -1,8 +1,9 @@
 // A whole forecast planned period by period: every proved lot is taken before the next read.
-ghost use Rattle.std.specs.Prelude.{◌≡◌, map, IfOk};
+ghost use Rattle.std.specs.Prelude.{map, IfOk};
 ghost use Rattle.lots.specs.Lots.{terms};
-ghost use Rattle.planner.specs.Rolling.{rolled_lots, rolled_stop};
 ghost use Rattle.planner.specs.Freezing.{FrozenAll};
+ghost use Rattle.planner.specs.Rolling.{RolledOut};
+ghost use Rattle.planner.specs.Standing.{charges, forecast};
 
 use crate::planner::Planner;
 use crate::refusals::ReadRefusal;
@@ -24,21 +25,21 @@ pub fn plan_forecast<F: Feed + Drop, M: CostModel + Drop>(
     feed: F,
     model: M,
 ) -> Result<Planned, AllocError>
-    ensures { IfOk result (λ p. (map terms p.lots.items ≡ rolled_lots (M.CostModel.K model) (M.CostModel.V model) (F.Feed.demands feed) (F.Feed.ending feed)) × (p.stop ≡ rolled_stop (M.CostModel.K model) (M.CostModel.V model) (F.Feed.demands feed) (F.Feed.ending feed))) }
+    ensures { IfOk result (λ p. RolledOut (charges M.CostModel model) (forecast F.Feed feed) (map terms p.lots.items) p.stop) }
 {
     let mut planner = Planner::open(heap, feed, model)?;
     let mut lots = Vec::new(heap);
-    let refusal = freeze_all(&mut planner, &mut lots)?;
-    if let ReadRefusal::FeedEnded = refusal {
-        let mut closed = planner.close();
-        let closing = closed.empty(heap)?;
-        lots.extend_from_slice(&closing)?;
-        return Ok(Planned { lots, stop: None });
+    match freeze_all(&mut planner, &mut lots)? {
+        ReadRefusal::FeedEnded => {
+            let mut closing = planner.close().empty(heap)?;
+            lots.append(&mut closing)?;
+            Ok(Planned { lots, stop: None })
+        }
+        refusal => Ok(Planned {
+            lots,
+            stop: Some(refusal),
+        }),
     }
-    Ok(Planned {
-        lots,
-        stop: Some(refusal),
-    })
 }
 
 // Reads and takes until a read is refused, and tells why.
@@ -46,7 +47,7 @@ fn freeze_all<F: Feed, M: CostModel>(
     planner: &mut Planner<F, M>,
     lots: &mut Vec<Lot>,
 ) -> Result<ReadRefusal, AllocError>
-    ensures { IfOk result (λ refusal. FrozenAll (M.CostModel.K planner.old.model) (M.CostModel.V planner.old.model) planner.old (F.Feed.demands planner.old.feed) (F.Feed.ending planner.old.feed) lots.old.items refusal lots.new.items planner.new) }
+    ensures { IfOk result (λ refusal. FrozenAll F.Feed M.CostModel planner.old lots.old.items refusal lots.new.items planner.new) }
 {
     loop {
         match planner.take() {

@@ -4,6 +4,7 @@ ghost use Rattle.planner.specs.Refusals.{read_number, take_number, rest_number};
 ghost use Rattle.planner.specs.declared.refusals.ReadRefusal.TheVariants.{Feed as OfFeed};
 
 use feeds::FeedFault;
+use lots::Refusal;
 
 #[derive(Clone, Copy)]
 pub enum ReadRefusal {
@@ -27,10 +28,10 @@ impl From<FeedFault> for ReadRefusal {
     }
 }
 
-impl ReadRefusal {
-    pub fn number(self) -> u32
-        ensures { result ≡ read_number self }
-    {
+impl Refusal for ReadRefusal {
+    ghost numbered = { read_number };
+
+    fn number(&self) -> u32 {
         match self {
             ReadRefusal::LotWaits => 18,
             ReadRefusal::WindowFull => 19,
@@ -47,10 +48,10 @@ pub enum TakeRefusal {
     NoneProved,
 }
 
-impl TakeRefusal {
-    pub fn number(self) -> u32
-        ensures { result ≡ take_number self }
-    {
+impl Refusal for TakeRefusal {
+    ghost numbered = { take_number };
+
+    fn number(&self) -> u32 {
         match self {
             TakeRefusal::NoneProved => 23,
         }
@@ -63,10 +64,10 @@ pub enum RestRefusal {
     NoneLeft,
 }
 
-impl RestRefusal {
-    pub fn number(self) -> u32
-        ensures { result ≡ rest_number self }
-    {
+impl Refusal for RestRefusal {
+    ghost numbered = { rest_number };
+
+    fn number(&self) -> u32 {
         match self {
             RestRefusal::NoneLeft => 24,
         }

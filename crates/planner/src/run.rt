@@ -1,8 +1,7 @@
 // Running a whole series of calls. The law of whole runs stands on this call's contract.
-ghost use Rattle.std.specs.Prelude.{map, IfOk};
-ghost use Rattle.theory.specs.Series.{Ran};
-ghost use Rattle.planner.specs.Answers.{entry_of};
-ghost use Rattle.planner.specs.Runs.{Obeys};
+ghost use Rattle.std.specs.Prelude.{IfOk};
+ghost use Rattle.planner.specs.Runs.{Obeys, RanAll};
+ghost use Rattle.planner.specs.Standing.{charges, forecast};
 
 use crate::calls::{Call, Entry};
 use crate::planner::Planner;
@@ -18,19 +17,17 @@ pub fn run_series<F: Feed + Drop, M: CostModel + Drop>(
     model: M,
     calls: &[Call],
 ) -> Result<Series, AllocError>
-    ensures law { IfOk result (λ s. Obeys (M.CostModel.K model) (M.CostModel.V model) (F.Feed.demands feed) (F.Feed.ending feed) calls.now s) }
-    ensures due { IfOk result (λ s. Ran (M.CostModel.K model) (M.CostModel.V model) (F.Feed.demands feed) (F.Feed.ending feed) (map entry_of s.entries.items)) }
+    ensures law { IfOk result (λ s. Obeys (charges M.CostModel model) (forecast F.Feed feed) calls.now s) }
+    ensures due { IfOk result (λ s. RanAll (charges M.CostModel model) (forecast F.Feed feed) s.entries.items) }
 {
     let mut planner = Planner::open(heap, feed, model)?;
     let mut entries = Vec::new(heap);
     for call in calls {
-        let answer = planner.answer(*call);
         entries.push(Entry {
             call: *call,
-            answer,
+            answer: planner.answer(*call),
         })?;
     }
-    let mut closed = planner.close();
-    let closing = closed.empty(heap)?;
+    let closing = planner.close().empty(heap)?;
     Ok(Series { entries, closing })
 }

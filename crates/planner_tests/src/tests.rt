@@ -48,7 +48,7 @@ fn gives(
     let Some(entry) = series.entries.get(call) else {
         return Err(Fail::new("no such call"));
     };
-    let Answer::Given(lot) = entry.answer else {
+    let Answer::Take(Ok(lot)) = entry.answer else {
         return Err(Fail::new("no lot"));
     };
     is_lot(rt, lot, from, through, amount, cost, evidence);
@@ -76,7 +76,7 @@ fn proves_none(rt: &impl Abort, series: &Series, call: usize) -> Result<(), Fail
     let Some(entry) = series.entries.get(call) else {
         return Err(Fail::new("no such call"));
     };
-    assert!(rt; matches!(entry.answer, Answer::NotTaken(_)));
+    assert!(rt; matches!(entry.answer, Answer::Take(Err(_))));
     Ok(())
 }
 
@@ -150,7 +150,7 @@ fn two_lots_can_wait_at_one_period(rt: HostRuntime) -> Result<(), Fail> {
     let Some(waits) = s.entries.get(5) else {
         return Err(Fail::new("no such call"));
     };
-    assert!(rt; matches!(waits.answer, Answer::NotRead(ReadRefusal::LotWaits)));
+    assert!(rt; matches!(waits.answer, Answer::Read(Err(ReadRefusal::LotWaits))));
     gives(&rt, &s, 6, 1, 1, 4, 10, 5)?;
     gives(&rt, &s, 7, 2, 4, 17, 21, 5)?;
     proves_none(&rt, &s, 8)
@@ -168,7 +168,7 @@ fn a_fault_is_told_again_and_again(rt: HostRuntime) -> Result<(), Fail> {
         let Some(entry) = s.entries.get(call) else {
             return Err(Fail::new("no such call"));
         };
-        let Answer::NotRead(ReadRefusal::Feed(fault)) = entry.answer else {
+        let Answer::Read(Err(ReadRefusal::Feed(fault))) = entry.answer else {
             return Err(Fail::new("no fault"));
         };
         assert_eq!(rt; fault.number(), 10);

@@ -27,7 +27,7 @@ calls_same : (es : List Entry) → map (λ (e : series.Entry FeedFault). e.call)
 calls_same [] = refl
 calls_same (e ∷ es) = ap (λ (ks : List series.Call). call_of e.call ∷ ks) (calls_same es)
 
-module _ (K : ℕ → ℕ) (V : ℕ → ℕ → ℕ) (ds : List ℕ) (ending : Ending FeedFault) (calls : List Call) (s : Series) (o : Obeys K V ds ending calls s) (due : Ran K V ds ending (map entry_of (vec_items s.entries))) where
+module _ (K : ℕ → ℕ) (V : ℕ → ℕ → ℕ) (ds : List ℕ) (ending : Ending FeedFault) (calls : List Call) (s : Series) (o : Obeys (record { K = K; V = V }) (record { demands = ds; ending = ending }) calls s) (due : Ran K V ds ending (map entry_of (vec_items s.entries))) where
   abbrev es : List (series.Entry FeedFault)
   es = map entry_of (vec_items s.entries)
 

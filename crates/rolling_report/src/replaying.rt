@@ -9,6 +9,7 @@ ghost use Rattle.reporting.specs.Planning.{total_cost};
 ghost use Rattle.rolling_report.specs.Replaying.{answer_line, answer_cost, series_lines, replayed};
 
 use feeds::TextFeed;
+use lots::Refusal as Numbered;
 use planner::{Answer, Call, Entry, Series, run_series};
 use reporting::lines::{LotLine, RefusalLine, TotalLine};
 use reporting::print::write_lots;
@@ -21,11 +22,11 @@ fn write_answer(out: &mut String, answer: Answer) -> Result<(), AllocError>
     ensures { OnOk result (string_bytes out.new ≡ string_bytes out.old ++ answer_line (answer_of answer)) }
 {
     match answer {
-        Answer::Given(lot) => write!(out, "{}", LotLine(lot)),
-        Answer::Accepted(true) => writeln!(out, "read yes"),
-        Answer::Accepted(false) => writeln!(out, "read no"),
-        Answer::NotRead(refusal) => write!(out, "{}", RefusalLine::from(Refusal::Read(refusal))),
-        Answer::NotTaken(refusal) => {
+        Answer::Read(Ok(true)) => writeln!(out, "read yes"),
+        Answer::Read(Ok(false)) => writeln!(out, "read no"),
+        Answer::Read(Err(refusal)) => write!(out, "{}", RefusalLine::from(Refusal::Read(refusal))),
+        Answer::Take(Ok(lot)) => write!(out, "{}", LotLine(lot)),
+        Answer::Take(Err(refusal)) => {
             let number = refusal.number();
             write!(out, "{}", RefusalLine { number, place: 0 })
         }
@@ -37,7 +38,7 @@ fn cost_of(answer: Answer) -> u64
     ensures { result ≡ answer_cost (answer_of answer) }
 {
     match answer {
-        Answer::Given(lot) => lot.cost,
+        Answer::Take(Ok(lot)) => lot.cost,
         _ => 0,
     }
 }

@@ -1,12 +1,9 @@
 // Closing a planner and emptying it.
-ghost use Rattle.std.specs.Prelude.{◌≡◌, ◌<◌, ◌≤◌, map, IfOk};
+ghost use Rattle.std.specs.Prelude.{◌≡◌, ◌<◌, ◌≤◌, IfOk};
 ghost use Rattle.std.specs.List.{AllByRecursion};
 ghost use Rattle.lots.specs.declared.lot.LotKind.TheVariants.{Closing};
-ghost use Rattle.theory.specs.Series.{Rests};
-ghost use Rattle.planner.specs.Answers.{handed_lot};
-ghost use Rattle.theory.specs.Recursion.{Case};
-ghost use Rattle.planner.specs.Describing.{reading, Describes};
-ghost use Rattle.planner.specs.Resting.{rest_due, rest_told, rest_after, Left};
+ghost use Rattle.planner.specs.Describing.{reading};
+ghost use Rattle.planner.specs.Resting.{rest_after, TellsRest, EmptiesTo};
 ghost use Rattle.planner.specs.Windows.{window};
 
 use crate::closed::Closed;
@@ -18,10 +15,7 @@ use std::alloc::{AllocError, Global};
 impl<F, M> Closed<F, M> {
     // What is left of the rows' plan is all that is handed out.
     pub(crate) fn new(feed: F, model: M, rows: Rows) -> Closed<F, M>
-        ensures feed { result.feed ≡ feed }
-        ensures model { result.model ≡ model }
-        ensures rows { result.rows ≡ rows }
-        ensures after { result.after ≡ rows.base }
+        ensures { result ≡ record { feed = feed; model = model; window = window rows; after = rows.base } }
     {
         let after = rows.base();
         Closed {
@@ -34,10 +28,10 @@ impl<F, M> Closed<F, M> {
 
     // Hands out, as closing, the next lot of the plan of all periods read.
     pub fn rest(&mut self) -> Result<Lot, RestRefusal>
-        ensures due { (c : Case) → Describes c (window self.old.rows) → rest_told result ≡ rest_due c (reading (window self.old.rows)) self.old.after }
+        ensures due { TellsRest self.old.window self.old.after result }
         ensures closing { IfOk result (λ y. y.kind ≡ Closing) }
-        ensures onward { IfOk result (λ y. (self.old.after < y.through) × (y.through ≤ reading (window self.old.rows))) }
-        ensures left { Left self.old (rest_after result self.old.after) self.new }
+        ensures onward { IfOk result (λ y. (self.old.after < y.through) × (y.through ≤ reading self.old.window)) }
+        ensures left { self.new ≡ record self.old { after = rest_after result self.old.after } }
     {
         let Some(span) = self.rows.next_span(self.rows.read(), self.after) else {
             return Err(RestRefusal::NoneLeft);
@@ -48,7 +42,7 @@ impl<F, M> Closed<F, M> {
 
     // Hands out all that is left.
     pub fn empty(&mut self, heap: Global) -> Result<Vec<Lot>, AllocError>
-        ensures rests { IfOk result (λ v. (c : Case) → Describes c (window self.old.rows) → Rests c (reading (window self.old.rows)) self.old.after (map handed_lot v.items)) }
+        ensures rests { IfOk result (λ v. EmptiesTo self.old.window self.old.after v.items) }
         ensures closing { IfOk result (λ v. AllByRecursion (λ y. y.kind ≡ Closing) v.items) }
     {
         let mut lots = Vec::new(heap);

@@ -7,10 +7,7 @@ use crate::planner::Planner;
 impl<F, M> Planner<F, M> {
     // No more is read: what is left of the plan can be handed out.
     pub fn close(self) -> Closed<F, M>
-        ensures feed { result.feed ≡ self.feed }
-        ensures model { result.model ≡ self.model }
-        ensures rows { result.rows ≡ self.rows }
-        ensures after { result.after ≡ self.rows.base }
+        ensures { result ≡ record { feed = self.feed; model = self.model; window = self.window; after = self.window.base } }
     {
         let Planner {
             feed,

@@ -1,11 +1,10 @@
 // Opening a planner and reading into it.
-ghost use Rattle.std.specs.Prelude.{◌≡◌, suc, IfOk, IfErr, OnErr, OnOk};
-ghost use Rattle.theory.specs.Series.{read_call};
+ghost use Rattle.std.specs.Prelude.{◌≡◌, ◌≤◌, suc, IfOk, IfErr, OnErr, OnOk};
+ghost use Rattle.theory.specs.Series.{period_limit, read_call};
 ghost use Rattle.planner.specs.Answers.{read_answer};
 ghost use Rattle.planner.specs.Describing.{reading};
 ghost use Rattle.planner.specs.Tracking.{Follows};
-ghost use Rattle.planner.specs.Unchanged.{Unchanged};
-ghost use Rattle.planner.specs.Windows.{window, empty};
+ghost use Rattle.planner.specs.Windows.{empty};
 
 use crate::planner::Planner;
 use crate::refusals::ReadRefusal;
@@ -17,28 +16,28 @@ use std::alloc::{AllocFailed, Global};
 impl<F: Feed, M: CostModel> Planner<F, M> {
     // A planner that has read nothing yet; where memory does not suffice, feed and model come back.
     pub fn open(heap: Global, feed: F, model: M) -> Result<Planner<F, M>, AllocFailed<(F, M)>>
-        ensures made { IfOk result (λ p. (p.feed ≡ feed) × (p.model ≡ model) × (window p.rows ≡ empty)) }
+        ensures made { IfOk result (λ p. p ≡ record { feed = feed; model = model; window = empty; proved = None }) }
         ensures refused { IfErr result (λ y. y.value ≡ (feed, model)) }
     {
-        match Rows::new(heap) {
-            Ok(rows) => Ok(Planner {
-                feed,
-                model,
-                rows,
-                proved: None,
-            }),
-            Err(_) => Err(AllocFailed {
+        let Ok(rows) = Rows::new(heap) else {
+            return Err(AllocFailed {
                 value: (feed, model),
-            }),
-        }
+            });
+        };
+        Ok(Planner {
+            feed,
+            model,
+            rows,
+            proved: None,
+        })
     }
 
     // Asks the feed for one more period; the answer says if some lot has become certain.
     pub fn read(&mut self) -> Result<bool, ReadRefusal>
-        ensures follows { Follows (M.CostModel.K self.old.model) (M.CostModel.V self.old.model) (window self.old.rows) (F.Feed.demands self.old.feed) (F.Feed.ending self.old.feed) read_call (read_answer result) (window self.new.rows) (F.Feed.demands self.new.feed) (F.Feed.ending self.new.feed) }
-        ensures onward { OnOk result (((window self.new.rows).base ≡ (window self.old.rows).base) × (reading (window self.new.rows) ≡ suc (reading (window self.old.rows)))) }
+        ensures follows { Follows F.Feed M.CostModel self.old read_call (read_answer result) self.new }
+        ensures onward { OnOk result ((self.new.window.base ≡ self.old.window.base) × (reading self.new.window ≡ suc (reading self.old.window)) × (reading self.new.window ≤ period_limit)) }
         ensures model { self.new.model ≡ self.old.model }
-        ensures refused { OnErr result (Unchanged self.old self.new) }
+        ensures refused { OnErr result (self.new ≡ self.old) }
     {
         if self.proved.is_some() {
             return Err(ReadRefusal::LotWaits);

@@ -1,4 +1,4 @@
-use Rattle.std.proofs.Common.{Ok, sym, refl, ap, ◌∙◌, arith}
+use Rattle.std.proofs.Common.{Ok, sym, ap, ◌∙◌, arith}
 use Rattle.std.specs.Option.{option_map}
 use Rattle.lots.specs.declared.lot.LotKind.TheVariants.{Closing}
 use Rattle.theory.specs.Recursion.{plan}
@@ -12,23 +12,22 @@ use Rattle.planner.proofs.closed.Closed.rest.Goals as goal
 
 pub invariant_of-self : goal.invariant_of-self
 invariant_of-self g c =
-    let r = c.args.self.now.rows in
+    let r = c.self.inside.rows in
     let sp = c.in-Some.ensures.spans in
-    record { onward = omega (arith, forward (window r) r.sound _ (spans_base (window r) _ _ c.args.self.now.onward sp), sp.later, c.args.self.now.onward) }
+    omega (arith, forward (window r) r.sound _ (spans_base (window r) _ _ c.self.invariant sp), sp.later, c.self.invariant)
 
-pub returns : goal.returns
-returns g c = record {
-  due = λ d h.
-      let r = c.args.self.now.rows in
-      let found = c.in-Some.ensures.means d h ∙ ap (λ n. option_map span_of (next c.args.self.now.after (plan d n))) c.read.ensures in
-      let y = next_lot d _ _ _ found in
-      ap Ok (c.lot.ensures.means d h ∙ ap (handed Closing (reading (window r))) (sym y.2)) ∙ sym (ap (rest_of (reading (window r))) y.1);
-  closing = c.lot.ensures.kind;
-  onward =
-      let r = c.args.self.now.rows in
-      let sp = c.in-Some.ensures.spans in (
-        omega (arith, forward (window r) r.sound _ (spans_base (window r) _ _ c.args.self.now.onward sp), sp.later, c.lot.ensures.through),
-        omega (arith, sp.read, c.lot.ensures.through),
-      );
-  left = record { feed = refl; model = refl; rows = refl; after = sym c.lot.ensures.through };
-}
+pub returns-clause-due : goal.returns-clause-due
+returns-clause-due g c =
+    let r = c.self.inside.rows in
+    rw (← c.self.view_is)
+    (λ d h.
+    let found = c.in-Some.ensures.means d h ∙ ap (λ n. option_map span_of (next c.self.inside.after (plan d n))) c.read.ensures in
+    let y = next_lot d _ _ _ found in
+    ap Ok (c.lot.ensures.means d h ∙ ap (handed Closing (reading (window r))) (sym y.2)) ∙ sym (ap (rest_of (reading (window r))) y.1))
+
+pub returns-clause-onward : goal.returns-clause-onward
+returns-clause-onward g c =
+    let r = c.self.inside.rows in
+    let sp = c.in-Some.ensures.spans in
+    let ahead = forward (window r) r.sound _ (spans_base (window r) _ _ c.self.invariant sp) in
+    rw (← c.self.view_is) (omega (arith, ahead, sp.later, c.lot.ensures.through), omega (arith, sp.read, c.lot.ensures.through))
