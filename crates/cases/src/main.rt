@@ -6,7 +6,9 @@ ghost use Rattle.std.specs.Prelude.{◌<◌, length, IfSome};
 ghost use Rattle.std.specs.Iterator.{at_most};
 
 use lots::decimal::{Numeral, number};
-use rolling_report::{calls_of, lot_file, refusal_line, replay, report, report_orders};
+use rolling_report::{
+    LotFileError, calls_of, lot_file, refusal_line, replay, report, report_orders,
+};
 use std::alloc::{AllocError, Global};
 use std::io;
 use std::io::{Read, Write};
@@ -47,9 +49,10 @@ impl Case<'_> {
         match self.mode {
             Mode::Plain => report(heap, self.input),
             Mode::Orders => report_orders(heap, self.input),
-            Mode::File => match lot_file(heap, self.input)? {
+            Mode::File => match lot_file(heap, self.input) {
                 Ok(bytes) => hex_line(heap, bytes),
-                Err(refusal) => refusal_line(heap, refusal),
+                Err(LotFileError::Refused(refusal)) => refusal_line(heap, refusal),
+                Err(LotFileError::Memory(error)) => Err(error),
             },
             Mode::Replay => match calls_of(heap, self.letters)? {
                 Some(calls) => replay(heap, &calls, self.input),

@@ -1,66 +1,39 @@
 // The program: it reads an input from standard input, and writes what its mode makes of it to standard output.
 #![tactic(auto)]
 
-use report::{lot_file, refusal_line, report, report_orders};
-use std::io::{Read, Write};
+use report::{LotFileError, lot_file, refusal_line, report, report_orders};
+use reporting::{Mode, fail, read_input};
+use std::io::Write;
 use std::process::ExitCode;
 use std::{env, io};
-
-// One byte more than an input may have, which is enough to see that it has too many.
-const ENOUGH: u64 = 65_537;
-
-// What the program is asked to make of its input.
-#[derive(Clone, Copy)]
-enum Mode {
-    // The plan of a forecast text, in lines.
-    Forecast,
-    // The plan of order words, in lines.
-    Orders,
-    // The plan of a forecast text, as a lot file.
-    File,
-}
 
 // The mode that the arguments behind the program's name ask for, if they ask for one.
 fn asked(rt: &HostRuntime) -> io::Result<Option<Mode>> {
     let mut args = env::args(rt)?.skip(1);
-    let Some(word) = args.next() else {
-        return Ok(Some(Mode::Forecast));
-    };
-    if args.next().is_some() {
-        return Ok(None);
-    }
-    let mode = match word.as_str() {
-        "orders" => Some(Mode::Orders),
-        "file" => Some(Mode::File),
+    let mode = match (args.next(), args.next()) {
+        (None, _) => Some(Mode::Forecast),
+        (Some(word), None) => word.parse().ok(),
         _ => None,
     };
     Ok(mode)
 }
 
-fn read_input(rt: &HostRuntime) -> io::Result<Vec<u8>> {
-    let mut input = Vec::new(rt.alloc());
-    rt.stdin().take(ENOUGH).read_to_end(&mut input)?;
-    Ok(input)
-}
-
-// Ends with the status of a failure, once standard error says why.
-fn fail(rt: &HostRuntime, why: &[u8]) -> io::Result<ExitCode> {
-    rt.stderr().write_all(why)?;
-    Ok(ExitCode::FAILURE)
-}
-
 fn main(rt: HostRuntime) -> io::Result<ExitCode> {
     let heap = rt.alloc();
     let Some(mode) = asked(&rt)? else {
-        return fail(&rt, b"usage: lotplan [orders | file] < input\n");
+        let usage = b"usage: lotplan [orders | file] < input\n";
+        return fail(&mut rt.stderr(), usage);
     };
-    let input = read_input(&rt)?;
+    let input = read_input(heap, rt.stdin())?;
     let bytes = match mode {
         Mode::Forecast => report(heap, &input)?,
         Mode::Orders => report_orders(heap, &input)?,
-        Mode::File => match lot_file(heap, &input)? {
+        Mode::File => match lot_file(heap, &input) {
             Ok(bytes) => bytes,
-            Err(refusal) => return fail(&rt, &refusal_line(heap, refusal)?),
+            Err(LotFileError::Refused(refusal)) => {
+                return fail(&mut rt.stderr(), &refusal_line(heap, refusal)?);
+            }
+            Err(LotFileError::Memory(error)) => return Err(error.into()),
         },
     };
     rt.stdout().write_all(&bytes)?;

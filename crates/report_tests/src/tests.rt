@@ -1,38 +1,114 @@
-use report::{lot_file, refusal_line, report, report_orders};
+// What the tests of both programs share: how inputs are made, and how answers are compared.
+use lots::decimal::push_decimal;
+use reporting::{LotFileError, refusal_line};
 use std::alloc::{AllocError, Global};
 use std::process::Abort;
 use std::test::Fail;
 
-// The tests of `rolling_report` have the next helpers too: a crate for both would make them public, and a public function has a
-// contract and a must-fail edit here, which say nothing of one that stops where a test fails.
+mod at_once;
+mod parts;
+mod rolling;
 
-fn prints(rt: &impl Abort, heap: Global, input: &[u8], output: &[u8]) -> Result<(), Fail> {
-    let out = report(heap, input)?;
+// The report of this input is this output.
+fn prints<F: FnOnce(Global, &[u8]) -> Result<Vec<u8>, AllocError>>(
+    rt: &(impl Abort + Alloc<A = Global>),
+    report: F,
+    input: &[u8],
+    output: &[u8],
+) -> Result<(), Fail> {
+    let out = report(rt.alloc(), input)?;
     assert_eq!(rt; out.as_slice(), output);
     Ok(())
 }
 
-#[test]
-fn plans_are_printed(rt: HostRuntime) -> Result<(), Fail> {
-    for (input, output) in [
-        (
-            "10,0,1\n1,4\n2,3\n3,8\n4,2\n5,9\nend\n",
-            "closing 1 2 7 13 5\nclosing 3 4 10 12 5\nclosing 5 5 9 10 5\ntotal 35\n",
-        ),
-        ("1000000000,100000,3000\nend\n", "total 0\n"),
-        ("10,0,1\n1,0\n2,0\n3,0\nend\n", "total 0\n"),
-        (
-            "10,0,1\n1,0\n2,0\n3,5\n4,0\nend\n",
-            "closing 3 4 5 10 4\ntotal 10\n",
-        ),
-    ] {
-        prints(&rt, rt.alloc(), input.as_bytes(), output.as_bytes())?;
+// Costs, and behind them a forecast of so many periods of one demand.
+fn level(heap: Global, costs: &[u8], periods: u64, demand: u64) -> Result<Vec<u8>, AllocError> {
+    let mut input = Vec::from_slice(heap, costs)?;
+    for period in 1..=periods {
+        push_decimal(&mut input, period)?;
+        input.push(b',')?;
+        push_decimal(&mut input, demand)?;
+        input.push(b'\n')?;
     }
-    Ok(())
+    input.extend_from_slice(b"end\n")?;
+    Ok(input)
 }
 
-#[test]
-fn refusals_are_printed(rt: HostRuntime) -> Result<(), Fail> {
+// The line of a lot of the largest demand at the highest costs, made for its own period alone.
+fn push_period_line(
+    out: &mut Vec<u8>,
+    word: &[u8],
+    period: u64,
+    evidence: u64,
+) -> Result<(), AllocError> {
+    out.extend_from_slice(word)?;
+    push_decimal(out, period)?;
+    out.push(b' ')?;
+    push_decimal(out, period)?;
+    out.extend_from_slice(b" 1000000 101000000000 ")?;
+    push_decimal(out, evidence)?;
+    out.extend_from_slice(b"\n")
+}
+
+// The words behind the costs 10, 0 and 1.
+fn ordered(heap: Global, words: &[u32]) -> Result<Vec<u8>, AllocError> {
+    let mut input = Vec::from_slice(heap, b"10,0,1\n")?;
+    for word in words {
+        input.extend_from_slice(&word.to_be_bytes())?;
+    }
+    Ok(input)
+}
+
+// The report of these words behind those costs is this output.
+fn words_print<F: FnOnce(Global, &[u8]) -> Result<Vec<u8>, AllocError>>(
+    rt: &(impl Abort + Alloc<A = Global>),
+    report: F,
+    words: &[u32],
+    output: &[u8],
+) -> Result<(), Fail> {
+    prints(rt, report, &ordered(rt.alloc(), words)?, output)
+}
+
+// The lot file of this input has these bytes.
+fn files<F: FnOnce(Global, &[u8]) -> Result<Vec<u8>, LotFileError>>(
+    rt: &(impl Abort + Alloc<A = Global>),
+    lot_file: F,
+    input: &[u8],
+    output: &[u8],
+) -> Result<(), Fail> {
+    match lot_file(rt.alloc(), input) {
+        Ok(bytes) => {
+            assert_eq!(rt; bytes.as_slice(), output);
+            Ok(())
+        }
+        Err(LotFileError::Refused(_)) => Err(Fail::new("refused")),
+        Err(LotFileError::Memory(error)) => Err(error.into()),
+    }
+}
+
+// This input has no lot file, and the line says why.
+fn files_nothing<F: FnOnce(Global, &[u8]) -> Result<Vec<u8>, LotFileError>>(
+    rt: &(impl Abort + Alloc<A = Global>),
+    lot_file: F,
+    input: &[u8],
+    line: &[u8],
+) -> Result<(), Fail> {
+    match lot_file(rt.alloc(), input) {
+        Ok(_) => Err(Fail::new("not refused")),
+        Err(LotFileError::Refused(refusal)) => {
+            let why = refusal_line(rt.alloc(), refusal)?;
+            assert_eq!(rt; why.as_slice(), line);
+            Ok(())
+        }
+        Err(LotFileError::Memory(error)) => Err(error.into()),
+    }
+}
+
+// Inputs that both programs refuse before any lot is frozen.
+fn refuses<F: Fn(Global, &[u8]) -> Result<Vec<u8>, AllocError>>(
+    rt: &(impl Abort + Alloc<A = Global>),
+    report: F,
+) -> Result<(), Fail> {
     for (input, output) in [
         ("", "refused 26 at 0\n"),
         ("10,0,1", "refused 26 at 0\n"),
@@ -49,117 +125,52 @@ fn refusals_are_printed(rt: HostRuntime) -> Result<(), Fail> {
         ("10,0,1\n1,4\n", "refused 12 at 4\n"),
         ("10,0,1\nend\n1,4\n", "refused 13 at 4\n"),
     ] {
-        prints(&rt, rt.alloc(), input.as_bytes(), output.as_bytes())?;
+        prints(rt, &report, input.as_bytes(), output.as_bytes())?;
     }
     Ok(())
 }
 
-#[test]
-fn an_input_has_at_most_65536_bytes(rt: HostRuntime) -> Result<(), Fail> {
-    let heap = rt.alloc();
-    let mut input = vec![in heap; b'1'; 65_536]?;
-    prints(&rt, heap, &input, b"refused 26 at 0\n")?;
-    input.push(b'\n')?;
-    prints(&rt, heap, &input, b"refused 27 at 0\n")
-}
-
-// A forecast of so many periods with the largest demand, at the highest costs.
-fn dearest(heap: Global, periods: u32) -> Result<String, AllocError> {
-    let mut input = String::new(heap);
-    writeln!(input, "1000000000,100000,3000")?;
-    for period in 1..=periods {
-        writeln!(input, "{period},1000000")?;
-    }
-    writeln!(input, "end")?;
-    Ok(input)
-}
-
-#[test]
-fn the_window_holds_255_periods(rt: HostRuntime) -> Result<(), Fail> {
-    let heap = rt.alloc();
-    let mut output = String::new(heap);
-    for period in 1..=255u32 {
-        writeln!(output, "closing {period} {period} 1000000 101000000000 255")?;
-    }
-    writeln!(output, "total 25755000000000")?;
-    let open = dearest(heap, 255)?;
-    prints(&rt, heap, open.as_bytes(), output.as_bytes())?;
-    let full = dearest(heap, 256)?;
-    prints(&rt, heap, full.as_bytes(), b"refused 19 at 0\n")
-}
-
-// The words behind the costs 10, 0 and 1.
-fn ordered(heap: Global, words: &[u32]) -> Result<Vec<u8>, AllocError> {
-    let mut input = Vec::from_slice(heap, b"10,0,1\n")?;
-    for word in words {
-        input.extend_from_slice(&word.to_be_bytes())?;
-    }
-    Ok(input)
-}
-
-fn orders_print(rt: &impl Abort, heap: Global, input: &[u8], output: &[u8]) -> Result<(), Fail> {
-    let out = report_orders(heap, input)?;
-    assert_eq!(rt; out.as_slice(), output);
-    Ok(())
-}
-
-fn words_print(rt: &impl Abort, heap: Global, words: &[u32], output: &[u8]) -> Result<(), Fail> {
-    let input = ordered(heap, words)?;
-    orders_print(rt, heap, &input, output)
-}
-
-#[test]
-fn orders_are_planned(rt: HostRuntime) -> Result<(), Fail> {
-    let heap = rt.alloc();
+// Words that both programs answer alike, as no lot of theirs is frozen.
+fn answers_orders<F: Fn(Global, &[u8]) -> Result<Vec<u8>, AllocError>>(
+    rt: &(impl Abort + Alloc<A = Global>),
+    report: F,
+) -> Result<(), Fail> {
     let two = [0x8000_0001, 7, 0x4000_0002, 0x8000_0002, 0xC000_0002];
-    words_print(&rt, heap, &two, b"closing 1 2 5 10 2\ntotal 10\n")?;
-    words_print(&rt, heap, &[0xC000_0000], b"total 0\n")?;
-    words_print(&rt, heap, &[], b"refused 12 at 0\n")?;
-    words_print(&rt, heap, &[0x8000_0002], b"refused 10 at 0\n")?;
-    words_print(&rt, heap, &[0x8000_0001, 1_000_001], b"refused 11 at 4\n")
+    words_print(rt, &report, &two, b"closing 1 2 5 10 2\ntotal 10\n")?;
+    words_print(rt, &report, &[0xC000_0000], b"total 0\n")?;
+    words_print(rt, &report, &[], b"refused 12 at 0\n")?;
+    words_print(rt, &report, &[0x8000_0002], b"refused 10 at 0\n")?;
+    words_print(rt, &report, &[0x8000_0001, 1_000_001], b"refused 11 at 4\n")
 }
 
-#[test]
-fn orders_are_refused(rt: HostRuntime) -> Result<(), Fail> {
-    let heap = rt.alloc();
-    words_print(&rt, heap, &[0xC000_0000, 0], b"refused 13 at 4\n")?;
-    words_print(&rt, heap, &[7], b"refused 15 at 0\n")?;
+fn refuses_orders<F: Fn(Global, &[u8]) -> Result<Vec<u8>, AllocError>>(
+    rt: &(impl Abort + Alloc<A = Global>),
+    report: F,
+) -> Result<(), Fail> {
+    words_print(rt, &report, &[0xC000_0000, 0], b"refused 13 at 4\n")?;
+    words_print(rt, &report, &[7], b"refused 15 at 0\n")?;
     words_print(
-        &rt,
-        heap,
+        rt,
+        &report,
         &[0x8000_0001, 7, 0x4000_0008],
         b"refused 16 at 8\n",
     )?;
-    words_print(&rt, heap, &[0x8000_0001, 0xC000_0002], b"refused 17 at 4\n")?;
-    orders_print(&rt, heap, b"10,0,1\n\x80\0\0\x01\0", b"refused 14 at 4\n")
-}
-
-fn files(rt: &impl Abort, heap: Global, input: &[u8], output: &[u8]) -> Result<(), Fail> {
-    let Ok(file) = lot_file(heap, input)? else {
-        return Err(Fail::new("refused"));
-    };
-    assert_eq!(rt; file.as_slice(), output);
-    Ok(())
-}
-
-fn files_nothing(rt: &impl Abort, heap: Global, input: &[u8], why: &[u8]) -> Result<(), Fail> {
-    let Err(refusal) = lot_file(heap, input)? else {
-        return Err(Fail::new("not refused"));
-    };
-    let line = refusal_line(heap, refusal)?;
-    assert_eq!(rt; line.as_slice(), why);
-    Ok(())
-}
-
-#[test]
-fn a_plan_is_filed(rt: HostRuntime) -> Result<(), Fail> {
-    let heap = rt.alloc();
-    files(&rt, heap, b"10,0,1\nend\n", b"\xc0\0\0\0")?;
-    files(
-        &rt,
-        heap,
-        b"10,0,1\n1,4\n2,3\nend\n",
-        b"\x80\0\0\x01\0\0\0\x02\0\0\0\x07\0\0\0\x02\0\0\0\0\0\0\0\x0d\xc0\0\0\x01",
+    words_print(
+        rt,
+        &report,
+        &[0x8000_0001, 0xC000_0002],
+        b"refused 17 at 4\n",
     )?;
-    files_nothing(&rt, heap, b"10,0,1\n1,4\n3,3\nend\n", b"refused 10 at 4\n")
+    prints(rt, &report, b"10,0,1\n\x80\0\0\x01\0", b"refused 14 at 4\n")
+}
+
+// An input of 65,536 bytes is read, and one byte more is too many.
+fn takes_65536_bytes<F: Fn(Global, &[u8]) -> Result<Vec<u8>, AllocError>>(
+    rt: &(impl Abort + Alloc<A = Global>),
+    report: F,
+) -> Result<(), Fail> {
+    let mut input = vec![in rt.alloc(); b'1'; 65_536]?;
+    prints(rt, &report, &input, b"refused 26 at 0\n")?;
+    input.push(b'\n')?;
+    prints(rt, &report, &input, b"refused 27 at 0\n")
 }

@@ -1,9 +1,8 @@
 -- Reading a word of letters as calls, one by one.
 use Rattle.std.proofs.Common.{◌≡◌, ℕ, ◌+◌, ◌<◌, ◌≤◌, List, [], ◌∷◌, ◌++◌, length, get_or, drop, Some, None, Option, sym, refl, ap, ◌∙◌, append_assoc, append-nil}
-use Rattle.std.proofs.lemmas.List.{drop_all, get_or_default}
+use Rattle.std.proofs.lemmas.List.{drop_all, drop_more}
 use Rattle.planner.specs.declared.calls.Call.{Call}
 use Rattle.rolling_report.specs.Replaying.{call_of_letter, calls_then, calls_of}
-use Rattle.rolling_report.proofs.Totals.{next_item}
 
 -- calls in front of others that may be there
 abbrev pub behind_calls : List Call → Option (List Call) → Option (List Call)
@@ -20,7 +19,7 @@ module _ (letters : List ℕ) (i : ℕ) (within : i < length letters) where
 
   at_letter : calls_of (drop i letters) ≡ calls_then (call_of_letter b) (calls_of (drop (i + 1) letters))
   unfolding calls_of
-  at_letter = ap calls_of (next_item letters i b within (get_or_default letters i _ _ within))
+  at_letter = ap calls_of (drop_more letters i 0 within)
 
   -- a call more
   pub letter_more : (call : Call) (was now : List Call) → call_of_letter b ≡ Some call → now ≡ was ++ (call ∷ []) →

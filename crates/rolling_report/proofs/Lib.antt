@@ -1,9 +1,3 @@
-pub mod CostLines
-pub mod Fitting
-pub mod Planned
 pub mod Lettering
-pub mod Models
-pub mod Series
 pub mod Replayed
-pub mod Totals
-pub mod Writing
+pub mod Series

@@ -17,9 +17,10 @@ use Rattle.planner.specs.declared.calls.Call.{Call}
 use Rattle.planner.specs.declared.calls.Entry.{Entry}
 use Rattle.planner.specs.declared.series.Series.{Series}
 use Rattle.planner.proofs.Rolled.{closing_terms_lem}
-use Rattle.rolling_report.specs.Printing.{total_cost}
+use Rattle.reporting.specs.Planning.{total_cost}
 use Rattle.rolling_report.specs.Replaying.{series_lines, replay_due}
-use Rattle.rolling_report.proofs.Fitting.{least_payable, total_handed, total_frozen, taken_total}
+use Rattle.reporting.proofs.Fitting.{least_payable, total_handed}
+use Rattle.rolling_report.specs.Totals.{total_frozen, taken_total}
 use Rattle.rolling_report.proofs.Series.{frozen_cost}
 
 calls_same : (es : List Entry) → map (λ (e : series.Entry FeedFault). e.call) (map entry_of es) ≡ map call_of (map (λ (e : Entry). e.call) es)

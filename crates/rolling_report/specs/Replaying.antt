@@ -1,5 +1,5 @@
 -- What is printed of a series of calls that is replayed on a forecast.
-use Rattle.std.specs.Prelude.{ℕ, ◌+◌, true, false, cond, List, [], ◌∷◌, ◌++◌, map, drop, Some, None, Ok, Err, vec_items, codes, Option, Result, Vec, ◌==◌}
+use Rattle.std.specs.Prelude.{ℕ, ◌+◌, true, false, cond, List, [], ◌∷◌, ◌++◌, map, flat_map, Some, None, Ok, Err, vec_items, codes, Option, Result, Vec, ◌==◌}
 use Rattle.std.specs.declared.alloc.Global.{Global}
 use Rattle.theory.specs.Endings.{Ending}
 use Rattle.theory.specs.Recursion.{case_of, plan}
@@ -20,12 +20,12 @@ use Rattle.planner.specs.declared.calls.Call.{Call}
 use Rattle.planner.specs.declared.calls.Call.TheVariants.{Read, Take}
 use Rattle.planner.specs.declared.refusals.ReadRefusal.TheVariants.{LotWaits, WindowFull, LimitReached, FeedEnded, Feed}
 use Rattle.planner.specs.declared.refusals.TakeRefusal.TheVariants.{NoneProved}
-use Rattle.rolling_report.specs.declared.cost_line.CostLine.{CostLine}
-use Rattle.rolling_report.specs.declared.refusal.Refusal.{Refusal}
-use Rattle.rolling_report.specs.Costing.{costs_due}
-use Rattle.rolling_report.specs.Lines.{lot_line, total_line, line_of_refusal}
-use Rattle.rolling_report.specs.Printing.{total_cost, lot_lines}
-use Rattle.rolling_report.specs.Refusals.{read_told, read_place, refusal_number, refusal_place}
+use Rattle.reporting.specs.declared.refusal.Refusal.{Refusal}
+use Rattle.reporting.specs.Costing.{Priced, costs_due}
+use Rattle.reporting.specs.Lines.{lot_line, total_line, line_of_refusal}
+use Rattle.reporting.specs.Planning.{total_cost}
+use Rattle.reporting.specs.Printing.{lot_lines}
+use Rattle.reporting.specs.Refusals.{read_told, read_place, refusal_number, refusal_place}
 
 -- the call that a letter stands for: r is a read, t a take
 abbrev pub call_of_letter : ℕ → Option Call
@@ -71,8 +71,7 @@ answer_cost (refused_call r) = 0
 
 -- a line for each answer
 abbrev pub answer_lines : List (series.Entry FeedFault) → List ℕ
-answer_lines [] = []
-answer_lines (e ∷ es) = answer_line e.answer ++ answer_lines es
+answer_lines es = flat_map (λ e. answer_line e.answer) es
 
 -- a line for each answer and each closing lot, and then the total of all lots
 abbrev pub series_lines : List (series.Entry FeedFault) → List Terms → List ℕ
@@ -86,12 +85,12 @@ replay_due K V ds ending calls =
     series_lines es (map (handed Closing t) (after (base es) (plan (case_of K V ds) t)))
 
 -- the same at the costs of an input's line, or the line of the refusal
-abbrev pub replay_at : List Call → List ℕ → Result CostLine Refusal → List ℕ
-replay_at calls bs (Err r) = line_of_refusal (refusal_number r) (refusal_place r)
-replay_at calls bs (Ok l) =
-    let f : Forecast = forecast 0 0 (drop l.length bs) in
-    replay_due (λ _. l.setup) (constant_price l.unit l.holding) f.demands f.ending (map call_of calls)
+abbrev pub replay_at : List Call → Result Priced Refusal → List ℕ
+replay_at calls (Err r) = line_of_refusal (refusal_number r) (refusal_place r)
+replay_at calls (Ok c) =
+    let f : Forecast = forecast 0 0 c.rest in
+    replay_due (λ _. c.setup) (constant_price c.unit c.holding) f.demands f.ending (map call_of calls)
 
 -- what is printed of calls that are replayed on an input of costs and a forecast text
 unfoldable pub replayed : List Call → List ℕ → List ℕ
-replayed calls bs = replay_at calls bs (costs_due bs)
+replayed calls bs = replay_at calls (costs_due bs)

@@ -1,21 +1,14 @@
 // What the program answers to its input: for each of its modes one call from bytes to bytes.
 #![tactic(auto)]
 
-pub mod cost_line;
-pub mod costing;
-pub mod filing;
 pub mod letters;
-mod lines;
-mod plan;
-mod print;
-pub mod refusal;
+mod modes;
+pub mod planning;
 pub mod replaying;
 
-pub use cost_line::{CostLine, cost_line_at};
-pub use costing::{Costs, costs_of};
-pub use filing::lot_file;
 pub use letters::calls_of;
+pub use modes::{lot_file, report, report_orders};
 pub use planner::Call;
-pub use print::{refusal_line, report, report_orders};
-pub use refusal::Refusal;
+pub use planning::Rolling;
 pub use replaying::replay;
+pub use reporting::{CostLine, Costs, LotFileError, Refusal, cost_line_at, costs_of, refusal_line};

@@ -1,6 +1,0 @@
-pub mod CostLines
-pub mod Counts
-pub mod Models
-pub mod Payable
-pub mod Totals
-pub mod Writing

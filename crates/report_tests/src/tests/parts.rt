@@ -1,0 +1,28 @@
+// What both programs share besides their reports.
+use reporting::{Mode, fail, read_input};
+use std::test::Fail;
+
+#[test]
+fn an_input_is_read_up_to_a_byte_too_many(rt: HostRuntime) -> Result<(), Fail> {
+    let heap = rt.alloc();
+    let input = read_input(heap, &b"10,0,1\nend\n"[0..])?;
+    assert_eq!(rt; input.as_slice(), &b"10,0,1\nend\n"[0..]);
+    let long = vec![in heap; b'1'; 70_000]?;
+    assert_eq!(rt; read_input(heap, long.as_slice())?.len(), 65_537);
+    Ok(())
+}
+
+#[test]
+fn a_failure_says_why(rt: HostRuntime) -> Result<(), Fail> {
+    let mut told = Vec::new(rt.alloc());
+    fail(&mut told, b"no\n")?;
+    assert_eq!(rt; told.as_slice(), &b"no\n"[0..]);
+    Ok(())
+}
+
+#[test]
+fn modes_are_named(rt: HostRuntime) {
+    assert_eq!(rt; "orders".parse::<Mode>().ok(), Some(Mode::Orders));
+    assert_eq!(rt; "file".parse::<Mode>().ok(), Some(Mode::File));
+    assert_eq!(rt; "files".parse::<Mode>().ok(), None);
+}

@@ -1,0 +1,66 @@
+// The lot file of an input's plan.
+ghost use Rattle.std.specs.Prelude.{◌≡◌, ◌≤◌, map, length, IfOk};
+ghost use Rattle.lots.specs.Lots.{terms};
+ghost use Rattle.lotfile.specs.LotWords.{file_bytes};
+ghost use Rattle.reporting.specs.LotFiles.{file_of_plan, FiledAs};
+ghost use Rattle.reporting.specs.Planning.{input_plan};
+ghost use Rattle.reporting.specs.declared.filing.LotFileError.TheVariants.{Refused, Memory};
+
+use crate::costing::costs_of;
+use crate::demands::FromBytes;
+use crate::planning::Planning;
+use crate::refusal::Refusal;
+use lotfile::{FileError, file};
+use lots::Lot;
+use std::alloc::{AllocError, Global};
+
+// Why there is no lot file: the input is refused, or memory did not suffice.
+#[derive(Clone, Copy)]
+pub enum LotFileError {
+    Refused(Refusal),
+    Memory(AllocError),
+}
+
+impl From<Refusal> for LotFileError {
+    ghost from_gives = { λ r e. e ≡ Refused r };
+
+    fn from(refusal: Refusal) -> LotFileError {
+        LotFileError::Refused(refusal)
+    }
+}
+
+impl From<AllocError> for LotFileError {
+    ghost from_gives = { λ m e. e ≡ Memory m };
+
+    fn from(error: AllocError) -> LotFileError {
+        LotFileError::Memory(error)
+    }
+}
+
+// The lot file of no more lots than a file may hold.
+fn file_of(heap: Global, lots: &[Lot]) -> Result<Vec<u8>, AllocError>
+    requires { length lots.now ≤ 10000 }
+    ensures { IfOk result (λ v. v.items ≡ file_bytes (map terms lots.now)) }
+{
+    match file(heap, lots) {
+        Ok(bytes) => Ok(bytes),
+        Err(FileError::NoMemory) => Err(AllocError),
+        Err(FileError::Refused(_)) => unreachable(),
+    }
+}
+
+// The lot file of an input's plan.
+pub fn file_input<'a, D: FromBytes<'a>, P: Planning>(
+    heap: Global,
+    input: &'a [u8],
+) -> Result<Vec<u8>, LotFileError>
+    ensures { FiledAs (file_of_plan (input_plan P.due D.reading input.now)) result }
+{
+    let costs = costs_of(input)?;
+    let planned = P::plan(heap, D::from_bytes(costs.rest), costs.model)?;
+    if let Some(refusal) = planned.stop {
+        return Err(LotFileError::Refused(Refusal::Read(refusal)));
+    }
+    // A plan fits, so a file holds its lots.
+    Ok(file_of(heap, &planned.lots)?)
+}
