@@ -4,6 +4,7 @@ ghost use Rattle.std.specs.Prelude.{◌≡◌, ◌+◌, ◌*◌, ◌≤◌};
 use costs::CostModel;
 
 // A period's demand, and the costs of making it.
+// No bound on the model, which is only lent: a plain derive would ask for `M: Copy`.
 #[derive_where(Clone, Copy)]
 pub struct Asked<'a, M> {
     pub period: u32,
