@@ -94,6 +94,7 @@ pub fn check_dated<L: DatedLine>(
     if !dates_right(lines, first) {
         return Err(DatedFault::Dates);
     }
+    // A match, since `map_or` would ask of every kind of fault that it can be dropped.
     match first_earned(lines) {
         Some(fault) => Err(DatedFault::Line(fault)),
         None => Ok(()),

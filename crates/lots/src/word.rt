@@ -27,6 +27,7 @@ impl Word {
         ensures fits { is_some result ≡ nat_lt number 1073741824 }
         ensures kept { IfSome result (λ w. (w.kind ≡ kind) × (w.number ≡ number)) }
     {
+        // Not `then_some`, since making a word needs the fact that was tested.
         if number < SPAN {
             return Some(Word { kind, number });
         }
