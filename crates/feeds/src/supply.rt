@@ -14,6 +14,7 @@ pub(crate) struct Supply {
     stock: u64,
     receipts: VecDeque<Receipt>,
     period: u64,
+    ghost few: { deque_len receipts ≤ 32 },
     ghost bounded: { stock + 1000000000 * deque_len receipts ≤ 33000000000 },
     ghost coming: { coming_from period receipts.items ≡ true },
 }
