@@ -1,4 +1,4 @@
-// A feed over bytes, whatever the format that its forecast is written in.
+// A feed over bytes, whatever format its forecast is written in.
 ghost use Rattle.std.specs.Prelude.{◌≡◌, ℕ, ◌+◌, ◌<◌, ◌≤◌, List, length, IfSome, IfOk};
 ghost use Rattle.feeds.specs.Feeding.{Small};
 ghost use Rattle.feeds.specs.Forecasts.{Forecast, goes_further};
@@ -10,11 +10,12 @@ use crate::feed::Feed;
 use crate::period::Period;
 use std::marker::PhantomData;
 
-// How a forecast is written as bytes: the forecast that they are from a place on, once so many periods were handed out.
+// How a forecast is written as bytes.
 pub trait Format {
+    // The forecast that the bytes are from a place on, once so many periods were handed out.
     ghost forecast: { List ℕ → ℕ → ℕ → Forecast };
 
-    // No more periods can be written.
+    // The most periods that can be written.
     ghost most: { ℕ };
 
     // The record at the cursor: a period, or none where the forecast ends.
@@ -22,11 +23,13 @@ pub trait Format {
         ensures told { forecast at.now.text.now at.now.place at.now.handed ≡ goes_further (λ p. p.demand) result (λ p. forecast at.now.text.now p.next (at.now.handed + 1)) }
         ensures fits { IfOk result (λ o. IfSome o (PeriodFits most at.now.place at.now.handed (length at.now.text.now))) };
 
+    // No demand is above the largest.
     ghost small: { (text : List ℕ) (place handed : ℕ) → Small (forecast text place handed).demands };
 
     ghost few: { most < 1073741824 };
 }
 
+// The caller's bytes as far as they were read, in the format F.
 #[derive(Debug, Drop)]
 pub struct ByteFeed<'a, F: Format> {
     at: Cursor<'a>,

@@ -43,6 +43,7 @@ pub enum Front {
     Other,
 }
 
+// A function of its own, for where a line is read behind the patterns, eight ways lead into the last one and no proof is found.
 pub fn look_at(rest: &[u8]) -> Front
     ensures { result ≡ front_of rest.now }
 {

@@ -1,5 +1,5 @@
-// The order format: a forecast in words of 32 bits.
-ghost use Rattle.std.specs.Prelude.{◌≡◌, ◌<◌};
+// The order feed: a forecast in words of 32 bits.
+ghost use Rattle.std.specs.Prelude.{◌≡◌};
 ghost use Rattle.std.proofs.Common.{rules};
 ghost use Rattle.feeds.specs.Orders.{order_at, orders};
 ghost use Rattle.feeds.specs.SmallDemands.{orders_small};
@@ -13,6 +13,7 @@ use crate::period::Period;
 #[derive(Clone, Copy, Debug)]
 pub struct OrderWords;
 
+// A feed over such words, read straight from the caller's bytes.
 pub type OrderFeed<'a> = ByteFeed<'a, OrderWords>;
 
 // The period at the cursor, or none where the file ends.

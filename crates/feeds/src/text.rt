@@ -1,20 +1,21 @@
-// The text format: a forecast in lines of text.
-ghost use Rattle.std.specs.Prelude.{◌≡◌, ◌-◌, ◌<◌, length, drop, IfSome, IfOk};
+// The text feed: a forecast in lines of text.
+ghost use Rattle.std.specs.Prelude.{drop};
 ghost use Rattle.std.proofs.Common.{rules};
-ghost use Rattle.feeds.specs.Text.{record_at, forecast};
+ghost use Rattle.feeds.specs.Text.{forecast};
 ghost use Rattle.feeds.specs.SmallDemands.{text_small};
 
 use crate::cursor::Cursor;
 use crate::fault::{RecordFault, RecordFaultKind};
 use crate::feed::LARGEST_DEMAND;
 use crate::format::{ByteFeed, Format};
-use crate::line::{Front, Line, line_at, look_at};
+use crate::line::{Front, line_at, look_at};
 use crate::period::Period;
 
 // Lines of a period and its demand, then the line `end`.
 #[derive(Clone, Copy, Debug)]
 pub struct TextLines;
 
+// A feed over such lines, read straight from the caller's bytes.
 pub type TextFeed<'a> = ByteFeed<'a, TextLines>;
 
 impl Format for TextLines {
