@@ -9,7 +9,7 @@ ghost use Rattle.reporting.specs.declared.filing.LotFileError.TheVariants.{Refus
 use crate::costing::costs_of;
 use crate::planning::Planning;
 use crate::refusal::Refusal;
-use feeds::format::{ByteFeed, Format};
+use feeds::{ByteFeed, Format};
 use lotfile::{FileError, file};
 use lots::Lot;
 use std::alloc::{AllocError, Global};

@@ -10,7 +10,7 @@ use crate::costing::costs_of;
 use crate::lines::{LotLine, RefusalLine, TotalLine};
 use crate::planning::Planning;
 use crate::refusal::Refusal;
-use feeds::format::{ByteFeed, Format};
+use feeds::{ByteFeed, Format};
 use lots::{Lot, Refusal as _};
 use planner::Planned;
 use std::alloc::{AllocError, Global};
