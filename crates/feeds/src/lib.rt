@@ -16,7 +16,7 @@ pub mod text;
 
 pub use fault::{FeedFault, RecordFault, RecordFaultKind};
 pub use feed::Feed;
-pub use format::ByteFeed;
+pub use format::{ByteFeed, Format};
 pub use netting::Netting;
 pub use netting::fault::NettingFault;
 pub use netting::making::NettingRefused;

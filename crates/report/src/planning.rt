@@ -4,7 +4,7 @@ ghost use Rattle.report.specs.Planning.{plan_due, stopped_at};
 ghost use Rattle.report.specs.Fitting.{plan_fits};
 ghost use Rattle.reporting.specs.Planning.{plan_told};
 
-use costs::ConstantCosts;
+use costs::CostModel;
 use feeds::Feed;
 use lots::Lot;
 use planner::{PlanRefusal, Planned, ReadRefusal, cheapest_plan};
@@ -19,10 +19,10 @@ impl Planning for AtOnce {
 
     ghost fits = { plan_fits };
 
-    fn plan<F: Feed + Drop>(
+    fn plan<F: Feed + Drop, M: CostModel + Drop>(
         heap: Global,
         feed: F,
-        model: ConstantCosts,
+        model: M,
     ) -> Result<Planned, AllocError> {
         match cheapest_plan(heap, feed, &model) {
             Ok(lots) => Ok(Planned { lots, stop: None }),

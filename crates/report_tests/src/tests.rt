@@ -1,5 +1,4 @@
 // What the tests of both programs share: how inputs are made, and how answers are compared.
-use lots::decimal::push_decimal;
 use reporting::{LotFileError, refusal_line};
 use std::alloc::{AllocError, Global};
 use std::process::Abort;
@@ -22,32 +21,14 @@ fn prints<F: FnOnce(Global, &[u8]) -> Result<Vec<u8>, AllocError>>(
 }
 
 // Costs, and behind them a forecast of so many periods of one demand.
-fn level(heap: Global, costs: &[u8], periods: u64, demand: u64) -> Result<Vec<u8>, AllocError> {
-    let mut input = Vec::from_slice(heap, costs)?;
+fn level(heap: Global, costs: &str, periods: u32, demand: u32) -> Result<String, AllocError> {
+    let mut input = String::new(heap);
+    writeln!(input, "{costs}")?;
     for period in 1..=periods {
-        push_decimal(&mut input, period)?;
-        input.push(b',')?;
-        push_decimal(&mut input, demand)?;
-        input.push(b'\n')?;
+        writeln!(input, "{period},{demand}")?;
     }
-    input.extend_from_slice(b"end\n")?;
+    writeln!(input, "end")?;
     Ok(input)
-}
-
-// The line of a lot of the largest demand at the highest costs, made for its own period alone.
-fn push_period_line(
-    out: &mut Vec<u8>,
-    word: &[u8],
-    period: u64,
-    evidence: u64,
-) -> Result<(), AllocError> {
-    out.extend_from_slice(word)?;
-    push_decimal(out, period)?;
-    out.push(b' ')?;
-    push_decimal(out, period)?;
-    out.extend_from_slice(b" 1000000 101000000000 ")?;
-    push_decimal(out, evidence)?;
-    out.extend_from_slice(b"\n")
 }
 
 // The words behind the costs 10, 0 and 1.

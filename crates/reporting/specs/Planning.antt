@@ -1,10 +1,9 @@
 -- The plan of an input: its first line names costs, and the bytes behind it are demands.
 use Rattle.std.specs.Prelude.{ℕ, ◌^◌, ◌<◌, ◌≤◌, List, map, length, sum_by, Ok, Err, vec_items, Option, Result}
-use Rattle.theory.specs.Endings.{Ending}
 use Rattle.lots.specs.Lots.{Terms, terms}
 use Rattle.costs.specs.Constant.{constant_price}
-use Rattle.feeds.specs.declared.fault.FeedFault.{FeedFault}
 use Rattle.feeds.specs.Forecasts.{Forecast}
+use Rattle.planner.specs.Standing.{Charges}
 use Rattle.planner.specs.declared.forecast.Planned.{Planned}
 use Rattle.planner.specs.declared.refusals.ReadRefusal.{ReadRefusal}
 use Rattle.reporting.specs.declared.refusal.Refusal.{Refusal}
@@ -15,23 +14,17 @@ pub record Plan : Type 0 where
   pub lots : List Terms
   pub stop : Option ReadRefusal
 
--- the plan at charges and prices of demands with their ending
-abbrev pub PlanOf : Type 0
-PlanOf = (ℕ → ℕ) → (ℕ → ℕ → ℕ) → List ℕ → Ending FeedFault → Plan
+-- the charges at the same costs in every period
+abbrev pub charged : Priced → Charges
+charged c = record { K = λ _. c.setup; V = constant_price c.unit c.holding }
 
--- the plan at an input's costs, where `reading` says what demands the bytes behind them are
-abbrev pub plan_at : PlanOf → (List ℕ → Forecast) → Priced → Plan
-plan_at due reading c =
-    let f : Forecast = reading c.rest in
-    due (λ _. c.setup) (constant_price c.unit c.holding) f.demands f.ending
-
--- the same of an input that may name no costs
-abbrev pub plan_if : PlanOf → (List ℕ → Forecast) → Result Priced Refusal → Result Plan Refusal
-plan_if due reading (Ok c) = Ok (plan_at due reading c)
+-- the plan of an input that may name no costs; `due` says how forecasts are planned, and `reading` which forecast bytes are
+abbrev pub plan_if : (Charges → Forecast → Plan) → (List ℕ → Forecast) → Result Priced Refusal → Result Plan Refusal
+plan_if due reading (Ok c) = Ok (due (charged c) (reading c.rest))
 plan_if due reading (Err r) = Err r
 
 -- the plan of an input
-abbrev pub input_plan : PlanOf → (List ℕ → Forecast) → List ℕ → Result Plan Refusal
+abbrev pub input_plan : (Charges → Forecast → Plan) → (List ℕ → Forecast) → List ℕ → Result Plan Refusal
 input_plan due reading bs = plan_if due reading (costs_due bs)
 
 -- a plan by the terms of its lots

@@ -7,9 +7,9 @@ ghost use Rattle.reporting.specs.Planning.{input_plan};
 ghost use Rattle.reporting.specs.declared.filing.LotFileError.TheVariants.{Refused, Memory};
 
 use crate::costing::costs_of;
-use crate::demands::FromBytes;
 use crate::planning::Planning;
 use crate::refusal::Refusal;
+use feeds::{ByteFeed, Format};
 use lotfile::{FileError, file};
 use lots::Lot;
 use std::alloc::{AllocError, Global};
@@ -50,14 +50,14 @@ fn file_of(heap: Global, lots: &[Lot]) -> Result<Vec<u8>, AllocError>
 }
 
 // The lot file of an input's plan.
-pub fn file_input<'a, D: FromBytes<'a>, P: Planning>(
+pub fn file_input<F: Format, P: Planning>(
     heap: Global,
-    input: &'a [u8],
+    input: &[u8],
 ) -> Result<Vec<u8>, LotFileError>
-    ensures { FiledAs (file_of_plan (input_plan P.due D.reading input.now)) result }
+    ensures { FiledAs (file_of_plan (input_plan P.due (λ text. F.forecast text 0 0) input.now)) result }
 {
     let costs = costs_of(input)?;
-    let planned = P::plan(heap, D::from_bytes(costs.rest), costs.model)?;
+    let planned = P::plan(heap, ByteFeed::<F>::new(costs.rest), costs.model)?;
     if let Some(refusal) = planned.stop {
         return Err(LotFileError::Refused(Refusal::Read(refusal)));
     }

@@ -4,7 +4,6 @@
 
 pub mod cost_line;
 pub mod costing;
-pub mod demands;
 pub mod filing;
 pub mod lines;
 pub mod mode;
@@ -15,7 +14,6 @@ pub mod refusal;
 
 pub use cost_line::{CostLine, cost_line_at};
 pub use costing::{Costs, costs_of};
-pub use demands::FromBytes;
 pub use filing::{LotFileError, file_input};
 pub use mode::{Mode, UnknownMode};
 pub use planning::Planning;

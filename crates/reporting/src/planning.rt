@@ -1,27 +1,26 @@
 // How demands are planned is a parameter of all that prints or files a plan.
-ghost use Rattle.std.specs.Prelude.{◌≡◌, ℕ, List, IfOk};
-ghost use Rattle.theory.specs.Endings.{Ending};
+ghost use Rattle.std.specs.Prelude.{◌≡◌, IfOk};
 ghost use Rattle.theory.specs.Recursion.{LawfulCosts};
-ghost use Rattle.costs.specs.Constant.{constant_price};
 ghost use Rattle.feeds.specs.Feeding.{Small};
-ghost use Rattle.feeds.specs.declared.fault.FeedFault.{FeedFault};
-ghost use Rattle.reporting.specs.Planning.{PlanOf, plan_told, Fits};
+ghost use Rattle.feeds.specs.Forecasts.{Forecast};
+ghost use Rattle.planner.specs.Standing.{Charges, charges, forecast};
+ghost use Rattle.reporting.specs.Planning.{Plan, plan_told, Fits};
 
-use costs::ConstantCosts;
+use costs::CostModel;
 use feeds::Feed;
 use planner::Planned;
 use std::alloc::{AllocError, Global};
 
-// A way to plan: the plan due at any charges, prices, demands and their ending, which is small enough to be printed and filed.
+// A way to plan: the plan due of any forecast at any charges, which is small enough to be printed and filed.
 pub trait Planning {
-    ghost due: { PlanOf };
+    ghost due: { Charges → Forecast → Plan };
 
-    fn plan<F: Feed + Drop>(
+    fn plan<F: Feed + Drop, M: CostModel + Drop>(
         heap: Global,
         feed: F,
-        model: ConstantCosts,
+        model: M,
     ) -> Result<Planned, AllocError>
-        ensures { IfOk result (λ p. plan_told p ≡ due (λ _. model.setup) (constant_price model.unit model.holding) (F.Feed.demands feed) (F.Feed.ending feed)) };
+        ensures { IfOk result (λ p. plan_told p ≡ due (charges M.CostModel model) (forecast F.Feed feed)) };
 
-    ghost fits: { (K : ℕ → ℕ) (V : ℕ → ℕ → ℕ) (ds : List ℕ) (ending : Ending FeedFault) → LawfulCosts K V → Small ds → Fits (due K V ds ending) };
+    ghost fits: { (c : Charges) (all : Forecast) → LawfulCosts c.K c.V → Small all.demands → Fits (due c all) };
 }

@@ -7,10 +7,10 @@ ghost use Rattle.reporting.specs.Lines.{line_of_refusal};
 ghost use Rattle.reporting.specs.Refusals.{refusal_number, refusal_place};
 
 use crate::costing::costs_of;
-use crate::demands::FromBytes;
 use crate::lines::{LotLine, RefusalLine, TotalLine};
 use crate::planning::Planning;
 use crate::refusal::Refusal;
+use feeds::{ByteFeed, Format};
 use lots::{Lot, Refusal as _};
 use planner::Planned;
 use std::alloc::{AllocError, Global};
@@ -61,15 +61,15 @@ fn print_plan(heap: Global, planned: &Planned) -> Result<Vec<u8>, AllocError>
 }
 
 // What is printed for an input: the lines of its plan, or the line of the refusal in its place.
-pub fn print_input<'a, D: FromBytes<'a>, P: Planning>(
+pub fn print_input<F: Format, P: Planning>(
     heap: Global,
-    input: &'a [u8],
+    input: &[u8],
 ) -> Result<Vec<u8>, AllocError>
-    ensures { IfOk result (λ v. v.items ≡ printed_plan (input_plan P.due D.reading input.now)) }
+    ensures { IfOk result (λ v. v.items ≡ printed_plan (input_plan P.due (λ text. F.forecast text 0 0) input.now)) }
 {
     match costs_of(input) {
         Ok(costs) => {
-            let planned = P::plan(heap, D::from_bytes(costs.rest), costs.model)?;
+            let planned = P::plan(heap, ByteFeed::<F>::new(costs.rest), costs.model)?;
             print_plan(heap, &planned)
         }
         Err(refusal) => refusal_line(heap, refusal),

@@ -1,5 +1,5 @@
 -- The plan of every forecast fits: together its lots cost the least cost of the periods read, and each of them ends a period of its own.
-use Rattle.std.proofs.Common.{◌≡◌, ℕ, ◌+◌, ◌<◌, ◌≤◌, List, ◌++◌, map, length, ap, ◌∙◌, arith, length-append}
+use Rattle.std.proofs.Common.{◌≡◌, ℕ, ◌+◌, ◌^◌, ◌<◌, ◌≤◌, List, ◌++◌, map, length, ap, ◌∙◌, arith, length-append}
 use lib.ListN.{length-map}
 use Rattle.std.proofs.lemmas.List.Sums.{sum_by-append}
 use Rattle.theory.specs.Eager.{Outcome, eager}
@@ -15,8 +15,10 @@ use Rattle.lots.specs.Lots.{Terms}
 use Rattle.lots.specs.declared.lot.LotKind.TheVariants.{Closing}
 use Rattle.feeds.specs.declared.fault.FeedFault.{FeedFault}
 use Rattle.feeds.specs.Feeding.{Small}
+use Rattle.feeds.specs.Forecasts.{Forecast}
 use Rattle.planner.specs.Lots.{handed}
 use Rattle.planner.specs.Rolling.{frozen_terms, closing_terms, rolled_lots}
+use Rattle.planner.specs.Standing.{Charges}
 use Rattle.reporting.specs.Planning.{total_cost, Fits}
 use Rattle.reporting.proofs.Fitting.{least_payable, total_handed, plan_few}
 use Rattle.rolling_report.specs.Planning.{plan_due}
@@ -59,7 +61,7 @@ module _ (K : ℕ → ℕ) (V : ℕ → ℕ → ℕ) (ds : List ℕ) (ending : E
         ),
       )
 
-  rolled_fits : Small ds → Fits (plan_due K V ds ending)
+  rolled_fits : Small ds → (total_cost (rolled_lots K V ds ending) < 2 ^ 64) × (length (rolled_lots K V ds ending) ≤ 10000)
   rolled_fits small =
       let o : Outcome FeedFault = eager K V ds ending in
       let run = eager_run FeedFault K V ds ending in
@@ -74,5 +76,5 @@ module _ (K : ℕ → ℕ) (V : ℕ → ℕ → ℕ) (ds : List ℕ) (ending : E
         omega (arith, by.1, few, ap (λ (xs : List Terms). length xs) same),
       )
 
-pub plan_fits : (K : ℕ → ℕ) (V : ℕ → ℕ → ℕ) (ds : List ℕ) (ending : Ending FeedFault) → LawfulCosts K V → Small ds → Fits (plan_due K V ds ending)
-plan_fits K V ds ending lawful small = rolled_fits K V ds ending lawful small
+pub plan_fits : (c : Charges) (all : Forecast) → LawfulCosts c.K c.V → Small all.demands → Fits (plan_due c all)
+plan_fits c all lawful small = rolled_fits c.K c.V all.demands all.ending lawful small

@@ -4,7 +4,8 @@ ghost use Rattle.reporting.specs.LotFiles.{FiledAs};
 ghost use Rattle.rolling_report.specs.Modes.{printed, printed_orders, file_due};
 
 use crate::planning::Rolling;
-use feeds::{OrderFeed, TextFeed};
+use feeds::orders::OrderWords;
+use feeds::text::TextLines;
 use reporting::{LotFileError, file_input, print_input};
 use std::alloc::{AllocError, Global};
 
@@ -12,19 +13,19 @@ use std::alloc::{AllocError, Global};
 pub fn report(heap: Global, input: &[u8]) -> Result<Vec<u8>, AllocError>
     ensures { IfOk result (λ v. v.items ≡ printed input.now) }
 {
-    print_input::<TextFeed, Rolling>(heap, input)
+    print_input::<TextLines, Rolling>(heap, input)
 }
 
 // What is printed for an input of costs and order words.
 pub fn report_orders(heap: Global, input: &[u8]) -> Result<Vec<u8>, AllocError>
     ensures { IfOk result (λ v. v.items ≡ printed_orders input.now) }
 {
-    print_input::<OrderFeed, Rolling>(heap, input)
+    print_input::<OrderWords, Rolling>(heap, input)
 }
 
 // The lot file of the plan of an input of costs and a forecast text, or why there is none.
 pub fn lot_file(heap: Global, input: &[u8]) -> Result<Vec<u8>, LotFileError>
     ensures { FiledAs (file_due input.now) result }
 {
-    file_input::<TextFeed, Rolling>(heap, input)
+    file_input::<TextLines, Rolling>(heap, input)
 }

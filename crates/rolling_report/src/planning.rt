@@ -2,7 +2,7 @@
 ghost use Rattle.rolling_report.specs.Planning.{plan_due};
 ghost use Rattle.rolling_report.specs.Fitting.{plan_fits};
 
-use costs::ConstantCosts;
+use costs::CostModel;
 use feeds::Feed;
 use planner::{Planned, plan_forecast};
 use reporting::Planning;
@@ -16,10 +16,10 @@ impl Planning for Rolling {
 
     ghost fits = { plan_fits };
 
-    fn plan<F: Feed + Drop>(
+    fn plan<F: Feed + Drop, M: CostModel + Drop>(
         heap: Global,
         feed: F,
-        model: ConstantCosts,
+        model: M,
     ) -> Result<Planned, AllocError> {
         plan_forecast(heap, feed, model)
     }

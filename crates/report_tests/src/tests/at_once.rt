@@ -1,7 +1,6 @@
 // The program that plans at once: its lots are all closing ones.
 use crate::tests::{
-    answers_orders, files, files_nothing, level, prints, push_period_line, refuses, refuses_orders,
-    takes_65536_bytes,
+    answers_orders, files, files_nothing, level, prints, refuses, refuses_orders, takes_65536_bytes,
 };
 use report::{lot_file, report, report_orders};
 use std::test::Fail;
@@ -38,16 +37,16 @@ fn an_input_has_at_most_65536_bytes(rt: HostRuntime) -> Result<(), Fail> {
 #[test]
 fn the_window_holds_255_periods(rt: HostRuntime) -> Result<(), Fail> {
     let heap = rt.alloc();
-    let mut output = Vec::new(heap);
-    for period in 1..=255 {
-        push_period_line(&mut output, b"closing ", period, 255)?;
+    let dearest = "1000000000,100000,3000";
+    let mut output = String::new(heap);
+    for period in 1..=255u32 {
+        writeln!(output, "closing {period} {period} 1000000 101000000000 255")?;
     }
-    output.extend_from_slice(b"total 25755000000000\n")?;
-    let dearest = b"1000000000,100000,3000\n";
+    writeln!(output, "total 25755000000000")?;
     let most = level(heap, dearest, 255, 1_000_000)?;
-    prints(&rt, report, &most, &output)?;
+    prints(&rt, report, most.as_bytes(), output.as_bytes())?;
     let more = level(heap, dearest, 256, 1_000_000)?;
-    prints(&rt, report, &more, b"refused 19 at 0\n")
+    prints(&rt, report, more.as_bytes(), b"refused 19 at 0\n")
 }
 
 #[test]

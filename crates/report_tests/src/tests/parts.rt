@@ -5,8 +5,8 @@ use std::test::Fail;
 #[test]
 fn an_input_is_read_up_to_a_byte_too_many(rt: HostRuntime) -> Result<(), Fail> {
     let heap = rt.alloc();
-    let input = read_input(heap, &b"10,0,1\nend\n"[0..])?;
-    assert_eq!(rt; input.as_slice(), &b"10,0,1\nend\n"[0..]);
+    let text: &[u8] = b"10,0,1\nend\n";
+    assert_eq!(rt; read_input(heap, text)?.as_slice(), text);
     let long = vec![in heap; b'1'; 70_000]?;
     assert_eq!(rt; read_input(heap, long.as_slice())?.len(), 65_537);
     Ok(())
@@ -14,9 +14,10 @@ fn an_input_is_read_up_to_a_byte_too_many(rt: HostRuntime) -> Result<(), Fail> {
 
 #[test]
 fn a_failure_says_why(rt: HostRuntime) -> Result<(), Fail> {
+    let why: &[u8] = b"no\n";
     let mut told = Vec::new(rt.alloc());
-    fail(&mut told, b"no\n")?;
-    assert_eq!(rt; told.as_slice(), &b"no\n"[0..]);
+    fail(&mut told, why)?;
+    assert_eq!(rt; told.as_slice(), why);
     Ok(())
 }
 

@@ -1,7 +1,6 @@
 // The program that freezes lots as it reads.
 use crate::tests::{
-    answers_orders, files, files_nothing, level, prints, push_period_line, refuses, refuses_orders,
-    takes_65536_bytes,
+    answers_orders, files, files_nothing, level, prints, refuses, refuses_orders, takes_65536_bytes,
 };
 use rolling_report::{calls_of, lot_file, replay, report, report_orders};
 use std::alloc::Global;
@@ -46,23 +45,27 @@ fn an_input_has_at_most_65536_bytes(rt: HostRuntime) -> Result<(), Fail> {
 #[test]
 fn the_window_holds_255_periods(rt: HostRuntime) -> Result<(), Fail> {
     let heap = rt.alloc();
-    let most = level(heap, b"10,0,1\n", 255, 0)?;
-    prints(&rt, report, &most, b"total 0\n")?;
-    let more = level(heap, b"10,0,1\n", 256, 0)?;
-    prints(&rt, report, &more, b"refused 19 at 0\n")
+    let most = level(heap, "10,0,1", 255, 0)?;
+    prints(&rt, report, most.as_bytes(), b"total 0\n")?;
+    let more = level(heap, "10,0,1", 256, 0)?;
+    prints(&rt, report, more.as_bytes(), b"refused 19 at 0\n")
 }
 
 #[test]
 fn freezing_frees_the_window(rt: HostRuntime) -> Result<(), Fail> {
     let heap = rt.alloc();
-    let mut output = Vec::new(heap);
-    for period in 1..=299 {
-        push_period_line(&mut output, b"frozen ", period, period + 1)?;
+    let mut output = String::new(heap);
+    for period in 1..=299u32 {
+        let evidence = period + 1;
+        writeln!(
+            output,
+            "frozen {period} {period} 1000000 101000000000 {evidence}"
+        )?;
     }
-    push_period_line(&mut output, b"closing ", 300, 300)?;
-    output.extend_from_slice(b"total 30300000000000\n")?;
-    let input = level(heap, b"1000000000,100000,3000\n", 300, 1_000_000)?;
-    prints(&rt, report, &input, &output)
+    writeln!(output, "closing 300 300 1000000 101000000000 300")?;
+    writeln!(output, "total 30300000000000")?;
+    let input = level(heap, "1000000000,100000,3000", 300, 1_000_000)?;
+    prints(&rt, report, input.as_bytes(), output.as_bytes())
 }
 
 // Replaying these letters on this input prints this output.

@@ -9,12 +9,12 @@ use Rattle.reporting.proofs.filing.file_input.Goals as goal
 
 pub returns-in-Some : goal.returns-in-Some
 returns-in-Some g c =
-    let planned = planned_lem g.P.Planning.due g.D.FromBytes.reading c.args.input.now _ _ _ _ c.in_ok-costs.ensures c.from_bytes.ensures.demands c.from_bytes.ensures.ending c.in_ok-planned.ensures in
+    let planned = planned_lem g.P.Planning.due (λ text. g.F.Format.forecast text 0 0) c.args.input.now _ _ _ c.in_ok-costs.ensures c.new.ensures.whole c.in_ok-planned.ensures in
     ap (λ (o : Option ReadRefusal). file_unless o (map terms (vec_items c.in_ok-planned.planned.lots))) (sym c.in-Some.is) ∙ ap file_of_plan planned
 
 pub returns : goal.returns
 returns g c =
-    let planned = planned_lem g.P.Planning.due g.D.FromBytes.reading c.args.input.now _ _ _ _ c.in_ok-costs.ensures c.from_bytes.ensures.demands c.from_bytes.ensures.ending c.in_ok-planned.ensures in
+    let planned = planned_lem g.P.Planning.due (λ text. g.F.Format.forecast text 0 0) c.args.input.now _ _ _ c.in_ok-costs.ensures c.new.ensures.whole c.in_ok-planned.ensures in
     let whole : c.in_ok-planned.planned.stop ≡ None = search rules in
     ap Ok (c.in_ok-file_of.ensures ∙ ap (λ (xs : List Lot). file_bytes (map terms xs)) c.deref.ensures.value)
     ∙ ap (λ (o : Option ReadRefusal). file_unless o (map terms (vec_items c.in_ok-planned.planned.lots))) (sym whole) ∙ ap file_of_plan planned

@@ -6,5 +6,5 @@ use Rattle.reporting.proofs.print.print_input.Goals as goal
 
 pub returns-in_ok-planned-in-Ok : goal.returns-in_ok-planned-in-Ok
 returns-in_ok-planned-in-Ok g c =
-    let planned = planned_lem g.P.Planning.due g.D.FromBytes.reading c.args.input.now _ _ _ _ c.in-Ok.ensures c.from_bytes.ensures.demands c.from_bytes.ensures.ending c.in_ok-planned-in-Ok.ensures in
+    let planned = planned_lem g.P.Planning.due (λ text. g.F.Format.forecast text 0 0) c.args.input.now _ _ _ c.in-Ok.ensures c.new.ensures.whole c.in_ok-planned-in-Ok.ensures in
     IfOk-weaker c.print_plan.result _ _ (λ v e. e ∙ ap printed_plan planned) c.print_plan.ensures
