@@ -1,4 +1,4 @@
-use Rattle.std.proofs.Common.{◌≡◌, ◌++◌, map, take, string_bytes}
+use Rattle.std.proofs.Common.{◌≡◌, map, take, string_bytes}
 use Rattle.planner.specs.Answers.{entry_of}
 use Rattle.rolling_report.specs.Replaying.{answer_lines}
 use Rattle.rolling_report.proofs.replaying.print_series.Given as goal
