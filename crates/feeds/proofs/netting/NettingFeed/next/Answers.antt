@@ -30,4 +30,3 @@ returns-in_default-clause-told g c = let is = end_is g c in tell_finished _ _ (n
 pub returns-in_default-clause-others : goal.returns-in_default-clause-others
 returns-in_default-clause-others g c =
     let is = end_is g c in none_left _ _ (net_none _ _ _ _ is.0) (net_none _ _ _ _ (c.next.ensures.others ∙ ap others is.0))
-
