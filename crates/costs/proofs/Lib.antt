@@ -1,4 +1,3 @@
-pub mod Answered
 mod Jumps
 mod Keeping
 mod Searching
