@@ -37,7 +37,8 @@ impl From<AllocError> for LotFileError {
     }
 }
 
-// The lot file of no more lots than a file may hold.
+// The lot file of no more lots than a file may hold. Its error is no `From` of `LotFileError`: too many lots are no refusal of
+// an input, as no plan has so many.
 fn file_of(heap: Global, lots: &[Lot]) -> Result<Vec<u8>, AllocError>
     requires { length lots.now ≤ 10000 }
     ensures { IfOk result (λ v. v.items ≡ file_bytes (map terms lots.now)) }

@@ -6,6 +6,7 @@ ghost use Rattle.reporting.specs.Lines.{word_of_kind, lot_line, total_line, line
 use lots::{Lot, LotKind};
 use std::fmt;
 
+// A word and no `Display` for `LotKind`, which would have to stand in `lots`, where nothing is printed.
 fn kind_word(kind: LotKind) -> &'static str
     ensures { result.now ≡ word_of_kind kind }
 {

@@ -5,7 +5,8 @@ ghost use Rattle.rolling_report.specs.Replaying.{call_of_letter, calls_of, calls
 use planner::Call;
 use std::alloc::{AllocError, Global};
 
-// The call that a letter stands for.
+// The call that a letter stands for. It is no `TryFrom` for `Call`, which is a type of `planner`, where letters mean nothing:
+// an impl of another crate's trait must name a type of its own crate.
 fn call_of(letter: u8) -> Option<Call>
     ensures { result ≡ call_of_letter letter }
 {
