@@ -16,7 +16,8 @@ pub enum CostFault {
 }
 
 impl CostFault {
-    // Whether these numbers are in their bounds; the first that is not is the fault.
+    // Whether these numbers are in their bounds; the first that is not is the fault. They come loose: a struct of them is a model,
+    // whose type says that they are in bounds.
     pub fn check(setup: u64, unit: u64, holding: u64) -> Result<(), CostFault>
         ensures { result_err result ≡ cost_fault setup unit holding }
     {

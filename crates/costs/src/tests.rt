@@ -3,6 +3,7 @@ use crate::{ConstantCosts, CostLine, CostModel, DatedCosts, check_lines};
 use lots::Refusal;
 use std::test::Fail;
 
+// The number of the refusal, and 0 where nothing is refused: what the tests expect stays as it was.
 fn refusal(setup: u64, unit: u64, holding: u64) -> u32 {
     match ConstantCosts::new(setup, unit, holding) {
         Ok(_) => 0,

@@ -5,7 +5,7 @@ ghost use Rattle.feeds.specs.Lines.{LineFits};
 
 use lots::decimal::{Numeral, field};
 
-// The period and the demand that a line names, and how many bytes it takes.
+// The period and the demand that a line names, and how many bytes it takes, which are added to the place of the next line.
 #[derive(Clone, Copy, PartialEq, Eq, Debug)]
 pub struct Line {
     pub period: u32,

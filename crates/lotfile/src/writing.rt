@@ -20,7 +20,7 @@ fn room(buffer: &[u8], place: usize, count: usize) -> Result<Range<usize>, Write
     }
 }
 
-// Writes a lot's six words at a place of the buffer.
+// Writes a lot's six words at a place of the buffer. Buffer and place come apart, since a place beyond the buffer is refused.
 pub fn write_lot(buffer: &mut [u8], place: usize, lot: Lot) -> Result<(), WriteFault>
     ensures told { result_err result ≡ lot_refused buffer.old place }
     ensures left { buffer.new ≡ after (lot_refused buffer.old place) buffer.old place (words_bytes (words_of_lot (terms lot))) }

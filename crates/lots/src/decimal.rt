@@ -6,7 +6,8 @@ ghost use Rattle.lots.specs.Decimals.{digits_at, worth, well_formed, number_at, 
 use itoa::Buffer;
 use std::alloc::AllocError;
 
-// A number that was read, and how many bytes of the text were read for it.
+// A number that was read, and how many bytes of the text were read for it. Their count and not the text behind them, since a
+// feed adds it to the place that its faults tell.
 #[derive(Clone, Copy, PartialEq, Eq, Debug)]
 pub struct Numeral {
     pub value: u64,

@@ -5,7 +5,7 @@ ghost use Rattle.lots.specs.Lots.{terms, lot_of};
 use crate::lot::{Lot, LotKind};
 
 impl Lot {
-    // The lot of these numbers, if they make a lawful one.
+    // The lot of these numbers, if they make a lawful one. They come loose, since a struct of them would be a lot already.
     pub fn new(
         kind: LotKind,
         from: u32,

@@ -79,6 +79,7 @@ impl DatedLine for Weighed {
     }
 }
 
+// The number of the refusal, and 0 where nothing is refused: what the tests expect stays as it was.
 fn refusal(lines: &[Weighed], first: FirstDate) -> u32 {
     match check_dated(lines, 1, 3, first) {
         Ok(()) => 0,
