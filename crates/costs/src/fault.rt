@@ -8,7 +8,7 @@ use lots::Refusal;
 #[derive(Clone, Copy, PartialEq, Eq, Debug)]
 pub enum CostFault {
     // The setup charge is 0 or above 1,000,000,000.
-    Setup,
+    Setup = 1,
     // The unit cost is above 100,000.
     Unit,
     // The holding cost is above 3,000.
@@ -16,8 +16,8 @@ pub enum CostFault {
 }
 
 impl CostFault {
-    // Whether these numbers are in their bounds; the first that is not is the fault. They come loose: a struct of them is a model,
-    // whose type says that they are in bounds.
+    // Whether these numbers are in their bounds; the first that is not is the fault. They come loose, as they do where a model is
+    // made of them: a struct without bounds would be made only to be taken apart.
     pub fn check(setup: u64, unit: u64, holding: u64) -> Result<(), CostFault>
         ensures { result_err result ≡ cost_fault setup unit holding }
     {
@@ -38,10 +38,6 @@ impl Refusal for CostFault {
     ghost numbered = { fault_number };
 
     fn number(&self) -> u32 {
-        match self {
-            CostFault::Setup => 1,
-            CostFault::Unit => 2,
-            CostFault::Holding => 3,
-        }
+        *self as u32
     }
 }

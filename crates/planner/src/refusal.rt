@@ -5,7 +5,9 @@ ghost use Rattle.planner.specs.declared.refusal.PlanRefusal.TheVariants.{Feed as
 use feeds::FeedFault;
 use std::alloc::{AllocError, AllocFailed};
 
-#[derive(Clone, Copy)]
+// Of three cases, as the refusal of a read is of five: the refusals and the want of memory stand side by side, so that one match
+// tells them apart.
+#[derive(Clone, Copy, PartialEq, Eq, Debug)]
 pub enum PlanRefusal {
     // 256 periods were read, and no room is left for another.
     WindowFull,

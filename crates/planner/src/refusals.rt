@@ -6,7 +6,7 @@ ghost use Rattle.planner.specs.declared.refusals.ReadRefusal.TheVariants.{Feed a
 use feeds::FeedFault;
 use lots::Refusal;
 
-#[derive(Clone, Copy)]
+#[derive(Clone, Copy, PartialEq, Eq, Debug)]
 pub enum ReadRefusal {
     // A proved lot waits to be taken.
     LotWaits,
@@ -42,7 +42,8 @@ impl Refusal for ReadRefusal {
     }
 }
 
-#[derive(Clone, Copy)]
+// An enum though it has one case, as the rest's has: callers match it as they match the refusal of a read.
+#[derive(Clone, Copy, PartialEq, Eq, Debug)]
 pub enum TakeRefusal {
     // No lot is proved.
     NoneProved,
@@ -58,7 +59,7 @@ impl Refusal for TakeRefusal {
     }
 }
 
-#[derive(Clone, Copy)]
+#[derive(Clone, Copy, PartialEq, Eq, Debug)]
 pub enum RestRefusal {
     // No lot is left.
     NoneLeft,

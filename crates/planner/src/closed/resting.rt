@@ -32,6 +32,7 @@ impl<F, M> Closed<F, M> {
         ensures closing { IfOk result (λ y. y.kind ≡ Closing) }
         ensures onward { IfOk result (λ y. (self.old.after < y.through) × (y.through ≤ reading (window self.old.rows))) }
         ensures left { self.new ≡ record self.old { after = rest_after result self.old.after } }
+        ensures within { self.new.rows.base ≤ self.new.after }
     {
         let Some(span) = self.rows.next_span(self.rows.read(), self.after) else {
             return Err(RestRefusal::NoneLeft);
@@ -44,6 +45,7 @@ impl<F, M> Closed<F, M> {
     pub fn empty(&mut self, heap: Global) -> Result<Vec<Lot>, AllocError>
         ensures rests { IfOk result (λ v. EmptiesTo (window self.old.rows) self.old.after v.items) }
         ensures closing { IfOk result (λ v. AllByRecursion (λ y. y.kind ≡ Closing) v.items) }
+        ensures within { self.new.rows.base ≤ self.new.after }
     {
         let mut lots = Vec::new(heap);
         while let Ok(lot) = self.rest() {

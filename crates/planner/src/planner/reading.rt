@@ -3,6 +3,7 @@ ghost use Rattle.std.specs.Prelude.{◌≡◌, ◌≤◌, suc, IfOk, IfErr, OnEr
 ghost use Rattle.theory.specs.Series.{period_limit, read_call};
 ghost use Rattle.planner.specs.Answers.{read_answer};
 ghost use Rattle.planner.specs.Describing.{reading};
+ghost use Rattle.planner.specs.Proving.{TellsProved};
 ghost use Rattle.planner.specs.Tracking.{Follows};
 ghost use Rattle.planner.specs.Windows.{window, empty};
 
@@ -38,6 +39,7 @@ impl<F: Feed, M: CostModel> Planner<F, M> {
         ensures onward { OnOk result ((self.new.rows.base ≡ self.old.rows.base) × (reading (window self.new.rows) ≡ suc (reading (window self.old.rows))) × (reading (window self.new.rows) ≤ period_limit)) }
         ensures model { self.new.model ≡ self.old.model }
         ensures refused { OnErr result (self.new ≡ self.old) }
+        ensures proved { TellsProved (window self.new.rows) self.new.proved }
     {
         if self.proved.is_some() {
             return Err(ReadRefusal::LotWaits);

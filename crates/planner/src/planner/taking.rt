@@ -4,6 +4,7 @@ ghost use Rattle.theory.specs.Series.{take_call};
 ghost use Rattle.lots.specs.declared.lot.LotKind.TheVariants.{Frozen};
 ghost use Rattle.planner.specs.Answers.{take_answer};
 ghost use Rattle.planner.specs.Describing.{reading};
+ghost use Rattle.planner.specs.Proving.{TellsProved};
 ghost use Rattle.planner.specs.Tracking.{Follows};
 ghost use Rattle.planner.specs.Windows.{window};
 
@@ -22,6 +23,7 @@ impl<F: Feed, M: CostModel> Planner<F, M> {
         ensures feed { self.new.feed ≡ self.old.feed }
         ensures model { self.new.model ≡ self.old.model }
         ensures refused { OnErr result (self.new ≡ self.old) }
+        ensures proved { TellsProved (window self.new.rows) self.new.proved }
     {
         let Some(span) = self.proved else {
             return Err(TakeRefusal::NoneProved);

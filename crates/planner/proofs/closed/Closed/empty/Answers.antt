@@ -24,4 +24,5 @@ returns g c = record {
   rests = rests_done _ _ _ c.in_default.field-0 _ c.loop-lot.invariant.1
       (subst (λ r. TellsRest (window r) c.loop-lot.self.after (Err c.in_default.field-0)) c.loop-lot.invariant.0 c.in_default.ensures.due);
   closing = c.loop-lot.invariant.2;
+  within = c.in_default.ensures.within;
 }

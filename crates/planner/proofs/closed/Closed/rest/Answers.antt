@@ -1,4 +1,4 @@
-use Rattle.std.proofs.Common.{Ok, sym, ap, ◌∙◌, arith}
+use Rattle.std.proofs.Common.{◌≤◌, Ok, sym, ap, ◌∙◌, arith}
 use Rattle.std.specs.Option.{option_map}
 use Rattle.lots.specs.declared.lot.LotKind.TheVariants.{Closing}
 use Rattle.theory.specs.Recursion.{plan}
@@ -8,13 +8,22 @@ use Rattle.planner.specs.Describing.{reading}
 use Rattle.planner.specs.Resting.{rest_of}
 use Rattle.planner.specs.Windows.{window}
 use Rattle.planner.proofs.Backward.{forward, next_lot, spans_base}
+use Rattle.planner.proofs.closed.Closed.rest.Given as given
 use Rattle.planner.proofs.closed.Closed.rest.Goals as goal
+use Rattle.planner.proofs.closed.Closed.rest.Goals.{In-Some}
 
-pub invariant_of-self : goal.invariant_of-self
-invariant_of-self g c =
+-- the lot ends after the base
+ends_after : (g : given.Over) (c : In-Some g) → c.self.inside.rows.base ≤ c.in-Some.span.through
+ends_after g c =
     let r = c.self.inside.rows in
     let sp = c.in-Some.ensures.spans in
     omega (arith, forward (window r) r.sound _ (spans_base (window r) _ _ c.self.invariant sp), sp.later, c.self.invariant)
+
+pub invariant_of-self : goal.invariant_of-self
+invariant_of-self g c = ends_after g (goal.at.invariant_of-self g c).In-Some
+
+pub returns-clause-within : goal.returns-clause-within
+returns-clause-within g c = ends_after g (goal.at.returns-clause-within g c).In-Some
 
 pub returns-clause-due : goal.returns-clause-due
 returns-clause-due g c =

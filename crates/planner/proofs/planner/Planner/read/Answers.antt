@@ -66,6 +66,7 @@ returns-in_err-demand g c =
           (faulty _ all es _ tr (unproved g (goal.at.returns-in_err-demand g c).Else-is_some) (omega (arith, c.len.ensures)) (omega (arith, c.read.ensures)) end.0 _ end.1);
       onward = rw out.1 tt;
       model = refl;
+      proved = c.self.invariant;
       refused = rw out.1 (ap (λ f. record { feed = f; model = p.model; rows = p.rows; proved = p.proved }) same);
     })
 
