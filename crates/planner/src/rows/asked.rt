@@ -4,18 +4,18 @@ ghost use Rattle.std.specs.Prelude.{◌≡◌, ◌+◌, ◌*◌, ◌≤◌};
 use costs::CostModel;
 
 // A period's demand, and the costs of making it.
-// No bound on the model, which is only lent: a plain derive would ask for `M: Copy`.
-#[derive_where(Clone, Copy)]
+#[derive(Drop)]
 pub struct Asked<'a, M> {
     pub period: u32,
     pub demand: u32,
     pub model: &'a M,
+    ghost begun: { 1 ≤ period },
+    ghost small: { demand ≤ 1000000 },
 }
 
 impl<M: CostModel> Asked<'_, M> {
     // The charge of a setup in the period.
     pub fn setup(&self) -> u64
-        requires { 1 ≤ self.now.period }
         ensures is { result ≡ M.CostModel.K self.now.model.now self.now.period }
         ensures fits { result ≤ 1000000000 }
     {
@@ -24,7 +24,6 @@ impl<M: CostModel> Asked<'_, M> {
 
     // What the demand costs if it is made in this period or before.
     pub fn made_in(&self, made: u32) -> u64
-        requires small { self.now.demand ≤ 1000000 }
         requires begun { 1 ≤ made }
         requires ahead { made ≤ self.now.period }
         requires near { self.now.period ≤ made + 255 }

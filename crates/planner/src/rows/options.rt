@@ -24,7 +24,6 @@ pub fn raise<M: CostModel>(
 ) -> Choice
     requires short { length periods.old < 256 }
     requires next { asked.now.period ≡ suc (base + length periods.old) }
-    requires small { asked.now.demand ≤ 1000000 }
     requires begins { first ≤ length periods.old }
     requires fits { (k : ℕ) → first ≤ k → k < length periods.old → slice_index (options_of periods.old) k ≤ 2 ^ 60 }
     ensures rows { rows_of periods.new ≡ rows_of periods.old }
