@@ -13,7 +13,8 @@ use std::alloc::{AllocError, Global};
 use std::io;
 use std::io::{Read, Write};
 
-// What a case asks to make of its input.
+// What a case asks to make of its input. A mode has a word here for every one, `plain` too, and words are bytes, so it is not
+// the programs' mode.
 #[derive(Clone, Copy)]
 enum Mode {
     Plain,
@@ -46,6 +47,7 @@ struct Case<'a> {
 
 impl Case<'_> {
     fn answer(self, heap: Global) -> Result<Vec<u8>, AllocError> {
+        // Matched, since the modes take and give different things.
         match self.mode {
             Mode::Plain => report(heap, self.input),
             Mode::Orders => report_orders(heap, self.input),

@@ -9,7 +9,8 @@ use crate::numbers::numbers;
 use costs::{CostLine, DatedCosts};
 use std::alloc::Global;
 
-// The line that four numbers are: its date, setup charge, unit cost and holding cost.
+// The line that four numbers are: its date, setup charge, unit cost and holding cost. No `From`, which would have to stand in the
+// crate of the line, where four numbers in a row mean nothing.
 fn cost_line(numbers: [u32; 4]) -> CostLine
     ensures { result ≡ line_of numbers }
 {

@@ -13,7 +13,7 @@ use planner::ReadRefusal;
 use std::alloc::AllocError;
 
 // Why a plan is refused.
-#[derive(Clone, Copy)]
+#[derive(Clone, Copy, PartialEq, Eq, Debug)]
 pub enum Refusal {
     // The bytes of the costs or of the netting have another layout.
     Layout,
@@ -56,7 +56,7 @@ impl Refusal {
 
 // No plan: it is refused, or memory was wanting. An enum of its own, since `?` makes the errors of the crates below into it, and
 // `From` of one `Failure` for another is an orphan impl here, which the language refuses.
-#[derive(Clone, Copy)]
+#[derive(Clone, Copy, PartialEq, Eq, Debug)]
 pub enum PlanError {
     Refused(Refusal),
     NoMemory,

@@ -15,7 +15,7 @@ pub struct Layer {
     receipts: Vec<Receipt>,
 }
 
-// The receipt that two numbers are: its period and its amount.
+// The receipt that two numbers are: its period and its amount. No `From`, as for a cost line.
 fn receipt(numbers: [u32; 2]) -> Receipt
     ensures { result ≡ receipt_of numbers }
 {

@@ -3,12 +3,16 @@ use crate::{ConstantCosts, CostLine, CostModel, DatedCosts, check_lines};
 use lots::Refusal;
 use std::test::Fail;
 
-// The number of the refusal, and 0 where nothing is refused: what the tests expect stays as it was.
-fn refusal(setup: u64, unit: u64, holding: u64) -> u32 {
-    match ConstantCosts::new(setup, unit, holding) {
+// The number of a refusal; the tests expect 0 where nothing is refused.
+fn number_of<T: Copy, R: Refusal + Copy>(made: Result<T, R>) -> u32 {
+    match made {
         Ok(_) => 0,
         Err(fault) => fault.number(),
     }
+}
+
+fn refusal(setup: u64, unit: u64, holding: u64) -> u32 {
+    number_of(ConstantCosts::new(setup, unit, holding))
 }
 
 #[test]
@@ -46,10 +50,7 @@ fn line(date: u32, setup: u64, unit: u64, holding: u64) -> CostLine {
 }
 
 fn refusal_of_lines(lines: &[CostLine]) -> u32 {
-    match check_lines(lines) {
-        Ok(()) => 0,
-        Err(fault) => fault.number(),
-    }
+    number_of(check_lines(lines))
 }
 
 #[test]

@@ -4,7 +4,8 @@ ghost use Rattle.feeds.specs.Faults.{found};
 
 use crate::fault::{RecordFault, RecordFaultKind};
 
-// The caller's bytes, the place that was come to, and how many periods were handed out.
+// The caller's bytes, the place that was come to, and how many periods were handed out. The place stands beside all the bytes,
+// and not what is left of them alone, since faults tell it.
 #[derive(Clone, Copy, Debug)]
 pub struct Cursor<'a> {
     pub(crate) text: &'a [u8],

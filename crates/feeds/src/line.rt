@@ -43,7 +43,8 @@ pub enum Front {
     Other,
 }
 
-// A function of its own, for where a line is read behind the patterns, eight ways lead into the last one and no proof is found.
+// A function of its own: with `line_at` called under these patterns the last one is reached in eight ways, and its proof did not
+// close.
 pub fn look_at(rest: &[u8]) -> Front
     ensures { result ≡ front_of rest.now }
 {

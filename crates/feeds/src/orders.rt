@@ -16,7 +16,7 @@ pub struct OrderWords;
 // A feed over such words, read straight from the caller's bytes.
 pub type OrderFeed<'a> = ByteFeed<'a, OrderWords>;
 
-// The period at the cursor, or none where the file ends.
+// The period at the cursor, or none where the file ends. A function of its own, since its clause names the definition of a period.
 #[tactic(auto, unfolding(crate::specs::Orders::order_at))]
 fn period_due(at: &Cursor<'_>) -> Result<Option<Period>, RecordFault>
     ensures { result ≡ order_at at.now.text.now at.now.place at.now.handed }

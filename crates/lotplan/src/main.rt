@@ -7,6 +7,7 @@ use std::io::Write;
 use std::process::ExitCode;
 use std::{env, io};
 
+// Each program reads its own arguments, since they differ.
 // The mode that the arguments behind the program's name ask for, if they ask for one.
 fn asked(rt: &HostRuntime) -> io::Result<Option<Mode>> {
     let mut args = env::args(rt)?.skip(1);
@@ -25,6 +26,7 @@ fn main(rt: HostRuntime) -> io::Result<ExitCode> {
         return fail(&mut rt.stderr(), usage);
     };
     let input = read_input(heap, rt.stdin())?;
+    // Matched, since the modes end in different types: a lot file can be refused.
     let bytes = match mode {
         Mode::Forecast => report(heap, &input)?,
         Mode::Orders => report_orders(heap, &input)?,

@@ -2,8 +2,10 @@
 ghost use Rattle.std.specs.Prelude.{if◌then◌else◌, Some, None, nat_lt};
 ghost use Rattle.lots.specs.declared.tests.TooHeavy.TheVariants.{Weighing};
 
+use crate::decimal::{number, push_decimal};
 use crate::{DatedLine, FirstDate, Lot, LotKind, Refusal, check_dated};
 use std::convert::Infallible;
+use std::test::Fail;
 
 fn made(kind: LotKind, from: u32, through: u32, amount: u32, cost: u64, evidence: u32) -> bool {
     Lot::new(kind, from, through, amount, cost, evidence).is_some()
@@ -42,6 +44,18 @@ fn only_a_closing_lot_ends_at_its_evidence(rt: HostRuntime) {
     assert!(rt; !made(LotKind::Frozen, 1, 2, 7, 13, 2));
 }
 
+#[test]
+fn a_written_number_is_read_back(rt: HostRuntime) -> Result<(), Fail> {
+    for n in [0, 9, 10, 100, 18_446_744_073_709_551_615] {
+        let mut text = Vec::from_slice(rt.alloc(), b"n")?;
+        push_decimal(&mut text, n)?;
+        let digits = &text[1..];
+        let read = number(digits, 19).map(|numeral| numeral.value);
+        assert_eq!(rt; read, (digits.len() < 20).then_some(n));
+    }
+    Ok(())
+}
+
 // A line with an amount, which may not be above 9.
 struct Weighed(u32, u32);
 
@@ -71,15 +85,11 @@ impl DatedLine for Weighed {
     }
 
     fn fault(&self) -> Option<TooHeavy> {
-        if self.1 > 9 {
-            Some(TooHeavy::Weighing(self.1))
-        } else {
-            None
-        }
+        (self.1 > 9).then_some(TooHeavy::Weighing(self.1))
     }
 }
 
-// The number of the refusal, and 0 where nothing is refused: what the tests expect stays as it was.
+// The number of the refusal; the tests expect 0 where nothing is refused.
 fn refusal(lines: &[Weighed], first: FirstDate) -> u32 {
     match check_dated(lines, 1, 3, first) {
         Ok(()) => 0,

@@ -1,7 +1,7 @@
 use costs::{ConstantCosts, CostFault, CostLine, CostModel, DatedCosts};
 use feeds::{Feed, Netting, OrderFeed, TextFeed};
 use lots::{Lot, LotKind, Refusal};
-use planner::{Answer, Call, ReadRefusal, Series, plan_forecast, run_series};
+use planner::{Answer, Call, ReadRefusal, Series, TakeRefusal, plan_forecast, run_series};
 use std::alloc::{AllocError, Global};
 use std::process::Abort;
 use std::test::Fail;
@@ -49,7 +49,10 @@ fn given(series: &Series, call: usize) -> Result<Lot, Fail> {
 
 // The answer of a call is that no lot is proved.
 fn proves_none(rt: &impl Abort, series: &Series, call: usize) -> Result<(), Fail> {
-    assert!(rt; matches!(answer(series, call)?, Answer::Take(Err(_))));
+    assert_eq!(rt;
+        answer(series, call)?,
+        Answer::Take(Err(TakeRefusal::NoneProved))
+    );
     Ok(())
 }
 
@@ -183,7 +186,7 @@ fn two_lots_can_wait_at_one_period(rt: HostRuntime) -> Result<(), Fail> {
         tens()?,
         b"rrrrrrttt",
     )?;
-    assert!(rt; matches!(answer(&s, 5)?, Answer::Read(Err(ReadRefusal::LotWaits))));
+    assert_eq!(rt; answer(&s, 5)?, Answer::Read(Err(ReadRefusal::LotWaits)));
     assert_eq!(rt;
         given(&s, 6)?,
         Lot {
@@ -217,8 +220,9 @@ fn a_fault_is_told_again_and_again(rt: HostRuntime) -> Result<(), Fail> {
         tens()?,
         b"rrrrr",
     )?;
-    for call in 2..5 {
-        let Answer::Read(Err(ReadRefusal::Feed(fault))) = answer(&s, call)? else {
+    assert_eq!(rt; s.entries.len(), 5);
+    for entry in &s.entries[2..] {
+        let Answer::Read(Err(ReadRefusal::Feed(fault))) = entry.answer else {
             return Err(Fail::new("no fault"));
         };
         assert_eq!(rt; fault.number(), 10);
@@ -244,7 +248,7 @@ fn the_window_is_full_at_256(rt: HostRuntime) -> Result<(), Fail> {
     let heap = rt.alloc();
     let text = level(heap, 256, 0)?;
     let full = plan_forecast(heap, TextFeed::new(text.as_bytes()), tens()?)?;
-    assert!(rt; matches!(full.stop, Some(ReadRefusal::WindowFull)));
+    assert_eq!(rt; full.stop, Some(ReadRefusal::WindowFull));
     let text = level(heap, 255, 0)?;
     let open = plan_forecast(heap, TextFeed::new(text.as_bytes()), tens()?)?;
     assert!(rt; open.stop.is_none());
@@ -257,7 +261,7 @@ fn ten_thousand_periods_are_read(rt: HostRuntime) -> Result<(), Fail> {
     let heap = rt.alloc();
     let text = level(heap, 10_000, 7)?;
     let most = plan_forecast(heap, TextFeed::new(text.as_bytes()), tens()?)?;
-    assert!(rt; matches!(most.stop, Some(ReadRefusal::LimitReached)));
+    assert_eq!(rt; most.stop, Some(ReadRefusal::LimitReached));
     let text = level(heap, 9_999, 7)?;
     let whole = plan_forecast(heap, TextFeed::new(text.as_bytes()), tens()?)?;
     assert!(rt; whole.stop.is_none());

@@ -1,4 +1,5 @@
-// The modes of the program.
+// The modes of the program. What they do is generic (`reporting`); these are the public calls of this program, with contracts that
+// name its plan.
 ghost use Rattle.std.specs.Prelude.{◌≡◌, IfOk};
 ghost use Rattle.reporting.specs.LotFiles.{FiledAs};
 ghost use Rattle.report.specs.Modes.{printed, printed_orders, file_due};

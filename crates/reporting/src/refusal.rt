@@ -7,7 +7,7 @@ use costs::CostFault;
 use lots::Refusal as Numbered;
 use planner::ReadRefusal;
 
-#[derive(Clone, Copy)]
+#[derive(Clone, Copy, PartialEq, Eq, Debug)]
 pub enum Refusal {
     // The input has more than 65,536 bytes.
     TooLong,
@@ -19,6 +19,8 @@ pub enum Refusal {
     Read(ReadRefusal),
 }
 
+// A feed's fault tells its own number and place here. The library for C has refusals of its own that do the same in a line each;
+// one function for both would only be told which number a read's other refusals have.
 impl Numbered for Refusal {
     ghost numbered = { refusal_number };
 

@@ -17,6 +17,7 @@ enum Task {
     Replay(Vec<Call>),
 }
 
+// Each program reads its own arguments, since they differ.
 // What the arguments behind the program's name ask for, if they ask for something.
 fn asked(rt: &HostRuntime) -> io::Result<Option<Task>> {
     let mut args = env::args(rt)?.skip(1);
@@ -41,6 +42,7 @@ fn main(rt: HostRuntime) -> io::Result<ExitCode> {
         return fail(&mut rt.stderr(), usage);
     };
     let input = read_input(heap, rt.stdin())?;
+    // Matched, since the tasks end in different types: a lot file can be refused, and a replay has its calls.
     let bytes = match task {
         Task::Plan(Mode::Forecast) => report(heap, &input)?,
         Task::Plan(Mode::Orders) => report_orders(heap, &input)?,

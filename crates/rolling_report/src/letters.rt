@@ -21,6 +21,7 @@ fn call_of(letter: u8) -> Option<Call>
 pub fn calls_of(heap: Global, letters: &[u8]) -> Result<Option<Vec<Call>>, AllocError>
     ensures { IfOk result (λ calls. calls_told calls ≡ calls_of letters.now) }
 {
+    // A loop, since what the library says of `collect` into an `Option` leaves open whether a `Some` has every call.
     let mut calls = Vec::new(heap);
     for letter in letters {
         let Some(call) = call_of(*letter) else {

@@ -15,7 +15,8 @@ use feeds::Feed;
 use std::alloc::{AllocFailed, Global};
 
 impl<F: Feed, M: CostModel> Planner<F, M> {
-    // A planner that has read nothing yet; where memory does not suffice, feed and model come back.
+    // A planner that has read nothing yet; where memory does not suffice, feed and model come back. Feed and model come
+    // apart, as callers have them, and the allocator by itself, as in every call that allocates.
     pub fn open(heap: Global, feed: F, model: M) -> Result<Planner<F, M>, AllocFailed<(F, M)>>
         ensures made { IfOk result (λ p. (p.feed ≡ feed) × (p.model ≡ model) × (window p.rows ≡ empty) × (p.proved ≡ None)) }
         ensures refused { IfErr result (λ y. y.value ≡ (feed, model)) }
