@@ -52,7 +52,7 @@ impl Case<'_> {
             Mode::File => match lot_file(heap, self.input) {
                 Ok(bytes) => hex_line(heap, bytes),
                 Err(LotFileError::Refused(refusal)) => refusal_line(heap, refusal),
-                Err(LotFileError::Memory(error)) => Err(error),
+                Err(LotFileError::NoMemory(error)) => Err(error),
             },
             Mode::Replay => match calls_of(heap, self.letters)? {
                 Some(calls) => replay(heap, &calls, self.input),

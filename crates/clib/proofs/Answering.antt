@@ -3,11 +3,12 @@ use Rattle.std.proofs.Common.{◌≡◌, ℕ, ◌+◌, ◌<◌, ◌≤◌, true,
 use lib.ListN.{length-map}
 use Rattle.std.proofs.lemmas.Bool.{cond-true, cond-false, lt-ltb, le-ltb, le-leb, lt-leb}
 use Rattle.std.specs.declared.alloc.Global.{Global}
+use Rattle.lots.specs.declared.failure.Failure.{Failure}
+use Rattle.lots.specs.declared.failure.Failure.TheVariants.{Refused as IsRefused, NoMemory as WantsMemory}
 use Rattle.lots.specs.declared.lot.Lot.{Lot}
 use Rattle.lots.specs.Lots.{terms}
+use Rattle.lotfile.specs.declared.fault.WriteFault.{WriteFault}
 use Rattle.lotfile.specs.declared.fault.WriteFault.TheVariants.{NoRoom, TooMany}
-use Rattle.lotfile.specs.declared.whole.FileError.{FileError}
-use Rattle.lotfile.specs.declared.whole.FileError.TheVariants.{Refused as RefusedLots, NoMemory as NoMemoryForLots}
 use Rattle.lotfile.specs.Filing.{Filed}
 use Rattle.lotfile.specs.LotWords.{file_bytes}
 use Rattle.lotfile.specs.Writing.{spliced}
@@ -64,9 +65,9 @@ filed_whole lots v h =
     cond-true (leb (length (map terms lots)) 10000) (Ok (file_bytes (map terms lots))) (Err (Writing TooMany)) (le-leb (length (map terms lots)) 10000 few)
     ∙ ap Ok (sym h.1)
 
-pub filed_error : (lots : List Lot) (e : FileError) → Filed lots (Err e) → Told bytes_of (Err (of_file e)) (filed (map terms lots))
-filed_error lots (RefusedLots f) h =
+pub filed_error : (lots : List Lot) (e : Failure WriteFault) → Filed lots (Err e) → Told bytes_of (Err (of_file e)) (filed (map terms lots))
+filed_error lots (IsRefused f) h =
     let many : 10000 < length (map terms lots) = omega (arith, h.0, length-map lots terms) in
     cond-false (leb (length (map terms lots)) 10000) (Ok (file_bytes (map terms lots))) (Err (Writing TooMany)) (lt-leb (length (map terms lots)) 10000 many)
     ∙ ap (λ x. Err (Writing x)) (sym h.1)
-filed_error lots NoMemoryForLots h = tt
+filed_error lots (WantsMemory e) h = tt

@@ -1,10 +1,10 @@
 -- How steps that may be refused follow each other, and what code that may also lack memory tells of them.
 use Rattle.std.specs.Prelude.{◌≡◌, Some, None, Ok, Err, Option, Result}
-use Rattle.costs.specs.declared.dated.making.DatedCostsError.{DatedCostsError}
-use Rattle.costs.specs.declared.dated.making.DatedCostsError.TheVariants.{Refused as RefusedLines, NoMemory as NoMemoryForLines}
+use Rattle.lots.specs.declared.failure.Failure.{Failure}
+use Rattle.lots.specs.declared.failure.Failure.TheVariants.{Refused as IsRefused, NoMemory as WantsMemory}
+use Rattle.costs.specs.declared.lines.DatedCostsFault.{DatedCostsFault}
 use Rattle.clib.specs.declared.error.Refusal.{Refusal}
-use Rattle.lotfile.specs.declared.whole.FileError.{FileError}
-use Rattle.lotfile.specs.declared.whole.FileError.TheVariants.{Refused as RefusedLots, NoMemory as NoMemoryForLots}
+use Rattle.lotfile.specs.declared.fault.WriteFault.{WriteFault}
 use Rattle.clib.specs.declared.error.Refusal.TheVariants.{Costs, Writing}
 use Rattle.clib.specs.declared.error.PlanError.{PlanError}
 use Rattle.clib.specs.declared.error.PlanError.TheVariants.{Refused, NoMemory}
@@ -26,11 +26,11 @@ Told view (Err (Refused f)) due = due ≡ Err f
 Told view (Err NoMemory) due = Unit {0}
 
 -- an error of making a dated model as one of planning
-abbrev pub of_costs : DatedCostsError → PlanError
-of_costs (RefusedLines fault) = Refused (Costs fault)
-of_costs NoMemoryForLines = NoMemory
+abbrev pub of_costs : Failure DatedCostsFault → PlanError
+of_costs (IsRefused fault) = Refused (Costs fault)
+of_costs (WantsMemory e) = NoMemory
 
 -- an error of making a lot file as one of planning
-abbrev pub of_file : FileError → PlanError
-of_file (RefusedLots fault) = Refused (Writing fault)
-of_file NoMemoryForLots = NoMemory
+abbrev pub of_file : Failure WriteFault → PlanError
+of_file (IsRefused fault) = Refused (Writing fault)
+of_file (WantsMemory e) = NoMemory

@@ -54,7 +54,8 @@ impl Refusal {
     }
 }
 
-// No plan: it is refused, or memory was wanting.
+// No plan: it is refused, or memory was wanting. An enum of its own, since `?` makes the errors of the crates below into it, and
+// `From` of one `Failure` for another is an orphan impl here, which the language refuses.
 #[derive(Clone, Copy)]
 pub enum PlanError {
     Refused(Refusal),
@@ -83,7 +84,7 @@ impl From<DatedCostsError> for PlanError {
     fn from(error: DatedCostsError) -> PlanError {
         match error {
             DatedCostsError::Refused(fault) => PlanError::Refused(Refusal::Costs(fault)),
-            DatedCostsError::NoMemory => PlanError::NoMemory,
+            DatedCostsError::NoMemory(_) => PlanError::NoMemory,
         }
     }
 }
@@ -102,7 +103,7 @@ impl From<FileError> for PlanError {
     fn from(error: FileError) -> PlanError {
         match error {
             FileError::Refused(fault) => PlanError::Refused(Refusal::Writing(fault)),
-            FileError::NoMemory => PlanError::NoMemory,
+            FileError::NoMemory(_) => PlanError::NoMemory,
         }
     }
 }

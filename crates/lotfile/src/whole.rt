@@ -1,32 +1,20 @@
 ghost use Rattle.std.specs.Prelude.{◌≡◌};
 ghost use Rattle.lotfile.specs.Filing.{Filed};
-ghost use Rattle.lotfile.specs.declared.whole.FileError.TheVariants.{Refused, NoMemory};
+ghost use Rattle.lots.specs.declared.failure.Failure.TheVariants.{Refused};
 
 use crate::fault::WriteFault;
 use crate::words::{end_bytes, lot_bytes};
-use lots::Lot;
-use std::alloc::{AllocError, Global};
+use lots::{Failure, Lot};
+use std::alloc::Global;
 
 // Why there is no file: the lots are refused, or there was no memory for its bytes.
-#[derive(Clone, Copy, PartialEq, Eq, Debug)]
-pub enum FileError {
-    Refused(WriteFault),
-    NoMemory,
-}
+pub type FileError = Failure<WriteFault>;
 
 impl From<WriteFault> for FileError {
     ghost from_gives = { λ fault r. r ≡ Refused fault };
 
     fn from(fault: WriteFault) -> FileError {
-        FileError::Refused(fault)
-    }
-}
-
-impl From<AllocError> for FileError {
-    ghost from_gives = { λ _ r. r ≡ NoMemory };
-
-    fn from(_error: AllocError) -> FileError {
-        FileError::NoMemory
+        Failure::Refused(fault)
     }
 }
 

@@ -33,7 +33,7 @@ fn main(rt: HostRuntime) -> io::Result<ExitCode> {
             Err(LotFileError::Refused(refusal)) => {
                 return fail(&mut rt.stderr(), &refusal_line(heap, refusal)?);
             }
-            Err(LotFileError::Memory(error)) => return Err(error.into()),
+            Err(LotFileError::NoMemory(error)) => return Err(error.into()),
         },
     };
     rt.stdout().write_all(&bytes)?;

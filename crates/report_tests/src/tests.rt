@@ -63,7 +63,7 @@ fn files<F: FnOnce(Global, &[u8]) -> Result<Vec<u8>, LotFileError>>(
             Ok(())
         }
         Err(LotFileError::Refused(_)) => Err(Fail::new("refused")),
-        Err(LotFileError::Memory(error)) => Err(error.into()),
+        Err(LotFileError::NoMemory(error)) => Err(error.into()),
     }
 }
 
@@ -81,7 +81,7 @@ fn files_nothing<F: FnOnce(Global, &[u8]) -> Result<Vec<u8>, LotFileError>>(
             assert_eq!(rt; why.as_slice(), line);
             Ok(())
         }
-        Err(LotFileError::Memory(error)) => Err(error.into()),
+        Err(LotFileError::NoMemory(error)) => Err(error.into()),
     }
 }
 

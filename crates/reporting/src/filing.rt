@@ -4,36 +4,24 @@ ghost use Rattle.lots.specs.Lots.{terms};
 ghost use Rattle.lotfile.specs.LotWords.{file_bytes};
 ghost use Rattle.reporting.specs.LotFiles.{file_of_plan, FiledAs};
 ghost use Rattle.reporting.specs.Planning.{input_plan};
-ghost use Rattle.reporting.specs.declared.filing.LotFileError.TheVariants.{Refused, Memory};
+ghost use Rattle.lots.specs.declared.failure.Failure.TheVariants.{Refused};
 
 use crate::costing::costs_of;
 use crate::planning::Planning;
 use crate::refusal::Refusal;
 use feeds::{ByteFeed, Format};
-use lotfile::{FileError, file};
-use lots::Lot;
+use lotfile::file;
+use lots::{Failure, Lot};
 use std::alloc::{AllocError, Global};
 
 // Why there is no lot file: the input is refused, or memory did not suffice.
-#[derive(Clone, Copy)]
-pub enum LotFileError {
-    Refused(Refusal),
-    Memory(AllocError),
-}
+pub type LotFileError = Failure<Refusal>;
 
 impl From<Refusal> for LotFileError {
     ghost from_gives = { λ r e. e ≡ Refused r };
 
     fn from(refusal: Refusal) -> LotFileError {
-        LotFileError::Refused(refusal)
-    }
-}
-
-impl From<AllocError> for LotFileError {
-    ghost from_gives = { λ m e. e ≡ Memory m };
-
-    fn from(error: AllocError) -> LotFileError {
-        LotFileError::Memory(error)
+        Failure::Refused(refusal)
     }
 }
 
@@ -45,8 +33,8 @@ fn file_of(heap: Global, lots: &[Lot]) -> Result<Vec<u8>, AllocError>
 {
     match file(heap, lots) {
         Ok(bytes) => Ok(bytes),
-        Err(FileError::NoMemory) => Err(AllocError),
-        Err(FileError::Refused(_)) => unreachable(),
+        Err(Failure::NoMemory(error)) => Err(error),
+        Err(Failure::Refused(_)) => unreachable(),
     }
 }
 

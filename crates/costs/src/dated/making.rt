@@ -2,34 +2,22 @@ ghost use Rattle.std.specs.Prelude.{◌≡◌, map, IfOk, None};
 ghost use Rattle.costs.specs.Dated.{lines_fault};
 ghost use Rattle.costs.specs.Shown.{Summed};
 ghost use Rattle.costs.specs.DatedMaking.{Made};
-ghost use Rattle.costs.specs.declared.dated.making.DatedCostsError.TheVariants.{Refused as refusal, NoMemory};
+ghost use Rattle.lots.specs.declared.failure.Failure.TheVariants.{Refused};
 
 use crate::dated::{DatedCosts, HeldLine};
 use crate::line::CostLine;
 use crate::lines::{DatedCostsFault, check_lines};
+use lots::Failure;
 use std::alloc::{AllocError, Global};
 
 // Why dated costs were not made: the lines are refused, or there was no memory to keep them.
-// An enum of its own: one that is generic in the refusal could not have `From` of every refusal beside that of `AllocError`.
-#[derive(Clone, Copy, PartialEq, Eq, Debug)]
-pub enum DatedCostsError {
-    Refused(DatedCostsFault),
-    NoMemory,
-}
+pub type DatedCostsError = Failure<DatedCostsFault>;
 
 impl From<DatedCostsFault> for DatedCostsError {
-    ghost from_gives = { λ f r. r ≡ refusal f };
+    ghost from_gives = { λ f r. r ≡ Refused f };
 
     fn from(fault: DatedCostsFault) -> DatedCostsError {
-        DatedCostsError::Refused(fault)
-    }
-}
-
-impl From<AllocError> for DatedCostsError {
-    ghost from_gives = { λ _ r. r ≡ NoMemory };
-
-    fn from(_error: AllocError) -> DatedCostsError {
-        DatedCostsError::NoMemory
+        Failure::Refused(fault)
     }
 }
 
