@@ -17,7 +17,9 @@ pub struct Planner<F, M> {
     proved: Option<Span>,
 }
 
-// Callers see where it stands; the lot that is kept is always the one that the rows prove.
+// Callers see where it stands; the lot that is kept is always the one that the rows prove. Each call says so of what it leaves, as
+// it says that the model is as it was: callers are shown the value alone, and a value that held the proof would make planners equal
+// only where their proofs are.
 impl<F, M> Model for Planner<F, M> {
     ghost use Rattle.planner.specs.Proving.{TellsProved};
     ghost use Rattle.planner.specs.Standing.{Standing};
