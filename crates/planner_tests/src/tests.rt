@@ -233,7 +233,7 @@ fn a_fault_is_told_again_and_again(rt: HostRuntime) -> Result<(), Fail> {
     Ok(())
 }
 
-// A forecast of so many periods, each of the same demand.
+// A forecast of so many periods, each of the same demand. The tests of the reports have one like it: crates of tests share nothing.
 fn level(heap: Global, periods: u32, demand: u32) -> Result<String, AllocError> {
     let mut text = String::new(heap);
     for period in 1..=periods {
