@@ -14,7 +14,9 @@ fn prints<F: FnOnce(Global, &[u8]) -> Result<Vec<u8>, AllocError>>(
     report: F,
     input: &[u8],
     output: &[u8],
-) -> Result<(), Fail> {
+) -> Result<(), Fail>
+    requires { F.IsAlwaysCallable report }
+{
     let out = report(rt.alloc(), input)?;
     assert_eq!(rt; out.as_slice(), output);
     Ok(())
@@ -46,7 +48,9 @@ fn words_print<F: FnOnce(Global, &[u8]) -> Result<Vec<u8>, AllocError>>(
     report: F,
     words: &[u32],
     output: &[u8],
-) -> Result<(), Fail> {
+) -> Result<(), Fail>
+    requires { F.IsAlwaysCallable report }
+{
     prints(rt, report, &ordered(rt.alloc(), words)?, output)
 }
 
@@ -56,7 +60,9 @@ fn files<F: FnOnce(Global, &[u8]) -> Result<Vec<u8>, LotFileError>>(
     lot_file: F,
     input: &[u8],
     output: &[u8],
-) -> Result<(), Fail> {
+) -> Result<(), Fail>
+    requires { F.IsAlwaysCallable lot_file }
+{
     match lot_file(rt.alloc(), input) {
         Ok(bytes) => {
             assert_eq!(rt; bytes.as_slice(), output);
@@ -73,7 +79,9 @@ fn files_nothing<F: FnOnce(Global, &[u8]) -> Result<Vec<u8>, LotFileError>>(
     lot_file: F,
     input: &[u8],
     line: &[u8],
-) -> Result<(), Fail> {
+) -> Result<(), Fail>
+    requires { F.IsAlwaysCallable lot_file }
+{
     match lot_file(rt.alloc(), input) {
         Ok(_) => Err(Fail::new("not refused")),
         Err(LotFileError::Refused(refusal)) => {
@@ -86,10 +94,12 @@ fn files_nothing<F: FnOnce(Global, &[u8]) -> Result<Vec<u8>, LotFileError>>(
 }
 
 // Inputs that both programs refuse before any lot is frozen.
-fn refuses<F: Fn(Global, &[u8]) -> Result<Vec<u8>, AllocError>>(
+fn refuses<F: FnOnce(Global, &[u8]) -> Result<Vec<u8>, AllocError> + Copy>(
     rt: &(impl Abort + Alloc<A = Global>),
     report: F,
-) -> Result<(), Fail> {
+) -> Result<(), Fail>
+    requires { F.IsAlwaysCallable report }
+{
     for (input, output) in [
         ("", "refused 26 at 0\n"),
         ("10,0,1", "refused 26 at 0\n"),
@@ -106,52 +116,58 @@ fn refuses<F: Fn(Global, &[u8]) -> Result<Vec<u8>, AllocError>>(
         ("10,0,1\n1,4\n", "refused 12 at 4\n"),
         ("10,0,1\nend\n1,4\n", "refused 13 at 4\n"),
     ] {
-        prints(rt, &report, input.as_bytes(), output.as_bytes())?;
+        prints(rt, report, input.as_bytes(), output.as_bytes())?;
     }
     Ok(())
 }
 
 // Words that both programs answer alike, as no lot of theirs is frozen.
-fn answers_orders<F: Fn(Global, &[u8]) -> Result<Vec<u8>, AllocError>>(
+fn answers_orders<F: FnOnce(Global, &[u8]) -> Result<Vec<u8>, AllocError> + Copy>(
     rt: &(impl Abort + Alloc<A = Global>),
     report: F,
-) -> Result<(), Fail> {
+) -> Result<(), Fail>
+    requires { F.IsAlwaysCallable report }
+{
     let two = [0x8000_0001, 7, 0x4000_0002, 0x8000_0002, 0xC000_0002];
-    words_print(rt, &report, &two, b"closing 1 2 5 10 2\ntotal 10\n")?;
-    words_print(rt, &report, &[0xC000_0000], b"total 0\n")?;
-    words_print(rt, &report, &[], b"refused 12 at 0\n")?;
-    words_print(rt, &report, &[0x8000_0002], b"refused 10 at 0\n")?;
-    words_print(rt, &report, &[0x8000_0001, 1_000_001], b"refused 11 at 4\n")
+    words_print(rt, report, &two, b"closing 1 2 5 10 2\ntotal 10\n")?;
+    words_print(rt, report, &[0xC000_0000], b"total 0\n")?;
+    words_print(rt, report, &[], b"refused 12 at 0\n")?;
+    words_print(rt, report, &[0x8000_0002], b"refused 10 at 0\n")?;
+    words_print(rt, report, &[0x8000_0001, 1_000_001], b"refused 11 at 4\n")
 }
 
-fn refuses_orders<F: Fn(Global, &[u8]) -> Result<Vec<u8>, AllocError>>(
+fn refuses_orders<F: FnOnce(Global, &[u8]) -> Result<Vec<u8>, AllocError> + Copy>(
     rt: &(impl Abort + Alloc<A = Global>),
     report: F,
-) -> Result<(), Fail> {
-    words_print(rt, &report, &[0xC000_0000, 0], b"refused 13 at 4\n")?;
-    words_print(rt, &report, &[7], b"refused 15 at 0\n")?;
+) -> Result<(), Fail>
+    requires { F.IsAlwaysCallable report }
+{
+    words_print(rt, report, &[0xC000_0000, 0], b"refused 13 at 4\n")?;
+    words_print(rt, report, &[7], b"refused 15 at 0\n")?;
     words_print(
         rt,
-        &report,
+        report,
         &[0x8000_0001, 7, 0x4000_0008],
         b"refused 16 at 8\n",
     )?;
     words_print(
         rt,
-        &report,
+        report,
         &[0x8000_0001, 0xC000_0002],
         b"refused 17 at 4\n",
     )?;
-    prints(rt, &report, b"10,0,1\n\x80\0\0\x01\0", b"refused 14 at 4\n")
+    prints(rt, report, b"10,0,1\n\x80\0\0\x01\0", b"refused 14 at 4\n")
 }
 
 // An input of 65,536 bytes is read, and one byte more is too many.
-fn takes_65536_bytes<F: Fn(Global, &[u8]) -> Result<Vec<u8>, AllocError>>(
+fn takes_65536_bytes<F: FnOnce(Global, &[u8]) -> Result<Vec<u8>, AllocError> + Copy>(
     rt: &(impl Abort + Alloc<A = Global>),
     report: F,
-) -> Result<(), Fail> {
+) -> Result<(), Fail>
+    requires { F.IsAlwaysCallable report }
+{
     let mut input = vec![in rt.alloc(); b'1'; 65_536]?;
-    prints(rt, &report, &input, b"refused 26 at 0\n")?;
+    prints(rt, report, &input, b"refused 26 at 0\n")?;
     input.push(b'\n')?;
-    prints(rt, &report, &input, b"refused 27 at 0\n")
+    prints(rt, report, &input, b"refused 27 at 0\n")
 }

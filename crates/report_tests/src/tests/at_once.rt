@@ -19,19 +19,24 @@ fn plans_are_printed(rt: HostRuntime) -> Result<(), Fail> {
             "closing 3 4 5 10 4\ntotal 10\n",
         ),
     ] {
-        prints(&rt, report, input.as_bytes(), output.as_bytes())?;
+        prints(
+            &rt,
+            |heap, input| report(heap, input),
+            input.as_bytes(),
+            output.as_bytes(),
+        )?;
     }
     Ok(())
 }
 
 #[test]
 fn refusals_are_printed(rt: HostRuntime) -> Result<(), Fail> {
-    refuses(&rt, report)
+    refuses(&rt, |heap, input| report(heap, input))
 }
 
 #[test]
 fn an_input_has_at_most_65536_bytes(rt: HostRuntime) -> Result<(), Fail> {
-    takes_65536_bytes(&rt, report)
+    takes_65536_bytes(&rt, |heap, input| report(heap, input))
 }
 
 #[test]
@@ -44,33 +49,48 @@ fn the_window_holds_255_periods(rt: HostRuntime) -> Result<(), Fail> {
     }
     writeln!(output, "total 25755000000000")?;
     let most = level(heap, dearest, 255, 1_000_000)?;
-    prints(&rt, report, most.as_bytes(), output.as_bytes())?;
+    prints(
+        &rt,
+        |heap, input| report(heap, input),
+        most.as_bytes(),
+        output.as_bytes(),
+    )?;
     let more = level(heap, dearest, 256, 1_000_000)?;
-    prints(&rt, report, more.as_bytes(), b"refused 19 at 0\n")
+    prints(
+        &rt,
+        |heap, input| report(heap, input),
+        more.as_bytes(),
+        b"refused 19 at 0\n",
+    )
 }
 
 #[test]
 fn orders_are_planned(rt: HostRuntime) -> Result<(), Fail> {
-    answers_orders(&rt, report_orders)
+    answers_orders(&rt, |heap, input| report_orders(heap, input))
 }
 
 #[test]
 fn orders_are_refused(rt: HostRuntime) -> Result<(), Fail> {
-    refuses_orders(&rt, report_orders)
+    refuses_orders(&rt, |heap, input| report_orders(heap, input))
 }
 
 #[test]
 fn a_plan_is_filed(rt: HostRuntime) -> Result<(), Fail> {
-    files(&rt, lot_file, b"10,0,1\nend\n", b"\xc0\0\0\0")?;
     files(
         &rt,
-        lot_file,
+        |heap, input| lot_file(heap, input),
+        b"10,0,1\nend\n",
+        b"\xc0\0\0\0",
+    )?;
+    files(
+        &rt,
+        |heap, input| lot_file(heap, input),
         b"10,0,1\n1,4\n2,3\nend\n",
         b"\x80\0\0\x01\0\0\0\x02\0\0\0\x07\0\0\0\x02\0\0\0\0\0\0\0\x0d\xc0\0\0\x01",
     )?;
     files_nothing(
         &rt,
-        lot_file,
+        |heap, input| lot_file(heap, input),
         b"10,0,1\n1,4\n3,3\nend\n",
         b"refused 10 at 4\n",
     )

@@ -21,17 +21,22 @@ fn plans_are_printed(rt: HostRuntime) -> Result<(), Fail> {
             "closing 3 4 5 10 4\ntotal 10\n",
         ),
     ] {
-        prints(&rt, report, input.as_bytes(), output.as_bytes())?;
+        prints(
+            &rt,
+            |heap, input| report(heap, input),
+            input.as_bytes(),
+            output.as_bytes(),
+        )?;
     }
     Ok(())
 }
 
 #[test]
 fn refusals_are_printed(rt: HostRuntime) -> Result<(), Fail> {
-    refuses(&rt, report)?;
+    refuses(&rt, |heap, input| report(heap, input))?;
     prints(
         &rt,
-        report,
+        |heap, input| report(heap, input),
         b"10,0,1\n1,4\n2,3\n3,8\n5,1\nend\n",
         b"frozen 1 2 7 13 3\nrefused 10 at 12\n",
     )
@@ -39,16 +44,26 @@ fn refusals_are_printed(rt: HostRuntime) -> Result<(), Fail> {
 
 #[test]
 fn an_input_has_at_most_65536_bytes(rt: HostRuntime) -> Result<(), Fail> {
-    takes_65536_bytes(&rt, report)
+    takes_65536_bytes(&rt, |heap, input| report(heap, input))
 }
 
 #[test]
 fn the_window_holds_255_periods(rt: HostRuntime) -> Result<(), Fail> {
     let heap = rt.alloc();
     let most = level(heap, "10,0,1", 255, 0)?;
-    prints(&rt, report, most.as_bytes(), b"total 0\n")?;
+    prints(
+        &rt,
+        |heap, input| report(heap, input),
+        most.as_bytes(),
+        b"total 0\n",
+    )?;
     let more = level(heap, "10,0,1", 256, 0)?;
-    prints(&rt, report, more.as_bytes(), b"refused 19 at 0\n")
+    prints(
+        &rt,
+        |heap, input| report(heap, input),
+        more.as_bytes(),
+        b"refused 19 at 0\n",
+    )
 }
 
 #[test]
@@ -65,7 +80,12 @@ fn freezing_frees_the_window(rt: HostRuntime) -> Result<(), Fail> {
     writeln!(output, "closing 300 300 1000000 101000000000 300")?;
     writeln!(output, "total 30300000000000")?;
     let input = level(heap, "1000000000,100000,3000", 300, 1_000_000)?;
-    prints(&rt, report, input.as_bytes(), output.as_bytes())
+    prints(
+        &rt,
+        |heap, input| report(heap, input),
+        input.as_bytes(),
+        output.as_bytes(),
+    )
 }
 
 // Replaying these letters on this input prints this output.
@@ -125,26 +145,31 @@ fn other_letters_are_no_calls(rt: HostRuntime) -> Result<(), Fail> {
 
 #[test]
 fn orders_are_planned(rt: HostRuntime) -> Result<(), Fail> {
-    answers_orders(&rt, report_orders)
+    answers_orders(&rt, |heap, input| report_orders(heap, input))
 }
 
 #[test]
 fn orders_are_refused(rt: HostRuntime) -> Result<(), Fail> {
-    refuses_orders(&rt, report_orders)
+    refuses_orders(&rt, |heap, input| report_orders(heap, input))
 }
 
 #[test]
 fn a_plan_is_filed(rt: HostRuntime) -> Result<(), Fail> {
-    files(&rt, lot_file, b"10,0,1\nend\n", b"\xc0\0\0\0")?;
     files(
         &rt,
-        lot_file,
+        |heap, input| lot_file(heap, input),
+        b"10,0,1\nend\n",
+        b"\xc0\0\0\0",
+    )?;
+    files(
+        &rt,
+        |heap, input| lot_file(heap, input),
         b"10,0,1\n1,4\n2,3\nend\n",
         b"\x80\0\0\x01\0\0\0\x02\0\0\0\x07\0\0\0\x02\0\0\0\0\0\0\0\x0d\xc0\0\0\x01",
     )?;
     files(
         &rt,
-        lot_file,
+        |heap, input| lot_file(heap, input),
         b"10,0,1\n1,4\n2,10\nend\n",
         b"\x40\0\0\x01\0\0\0\x01\0\0\0\x04\0\0\0\x02\0\0\0\0\0\0\0\x0a\x80\0\0\x02\0\0\0\x02\0\0\0\x0a\0\0\0\x02\0\0\0\0\0\0\0\x0a\xc0\0\0\x02",
     )?;
@@ -152,7 +177,12 @@ fn a_plan_is_filed(rt: HostRuntime) -> Result<(), Fail> {
         ("10,0,1\n1,4\n3,3\nend\n", "refused 10 at 4\n"),
         ("10,0,1\n1,4\n2,10\n4,1\nend\n", "refused 10 at 9\n"),
     ] {
-        files_nothing(&rt, lot_file, input.as_bytes(), line.as_bytes())?;
+        files_nothing(
+            &rt,
+            |heap, input| lot_file(heap, input),
+            input.as_bytes(),
+            line.as_bytes(),
+        )?;
     }
     Ok(())
 }
