@@ -14,7 +14,7 @@ use std::io;
 use std::io::{Read, Write};
 
 // What a case asks to make of its input. A mode has a word here for every one, `plain` too, and words are bytes, so it is not
-// the programs' mode.
+// the programs' mode, and no word is an error, so it is no `TryFrom`.
 #[derive(Clone, Copy)]
 enum Mode {
     Plain,

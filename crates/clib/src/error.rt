@@ -27,6 +27,8 @@ pub enum Refusal {
     Writing(WriteFault),
 }
 
+// A feed's fault tells its own number and place, as in the programs' refusals: two methods of the refusal of a read would save a line
+// each.
 impl Numbered for Refusal {
     ghost numbered = { refusal_number };
 

@@ -1,11 +1,11 @@
 -- What asking reads, and what it comes to.
-use Rattle.std.specs.Prelude.{◌≡◌, ℕ, ◌+◌, ◌-◌, ◌*◌, ◌≤◌, false, ◌||◌, List, get_or, is_some, Some, None, Option, ◌==◌, nat_lt, slice_index_or, refl}
+use Rattle.std.specs.Prelude.{◌≡◌, ℕ, ◌+◌, ◌-◌, ◌*◌, ◌≤◌, false, ◌||◌, List, map, length, get_or, is_some, Some, None, Option, ◌==◌, nat_lt, slice_index_or, refl}
 use Rattle.std.proofs.Common.{sym, ap, ◌∙◌, arith}
-use Rattle.std.proofs.lemmas.List.{get_or_read, get_or-map}
-use Rattle.std.proofs.lemmas.Bool.{eqb-false, ltb-false, or_parts, cond-false}
-use Rattle.costs.specs.Asking.{unpriced, price_told}
+use Rattle.std.proofs.lemmas.List.{get_or_read, get_or-map, length-map}
+use Rattle.std.proofs.lemmas.Bool.{eqb-false, ne_eqb, ltb-false, or_parts, cond-false}
+use Rattle.costs.specs.Asking.{setup_told, unpriced, price_told}
 use Rattle.costs.specs.declared.line.CostLine.{CostLine}
-use Rattle.costs.specs.Dated.{empty_line, line_at, dated_price, holding_before, lines_fault, InForce}
+use Rattle.costs.specs.Dated.{empty_line, line_at, dated_setup, dated_price, holding_before, lines_fault, InForce}
 use Rattle.costs.specs.Shown.{Summed}
 use Rattle.costs.specs.InForce.{line_at_lem}
 use Rattle.costs.specs.Held.{held_between, held_on}
@@ -13,6 +13,9 @@ use Rattle.costs.specs.Held.{held_between, held_on}
 pub none_of : {E : Type 0} (o : Option E) → is_some o ≡ false → o ≡ None
 none_of None e = refl
 none_of (Some f) e = let z : ◌≡◌ {A = ℕ} 0 1 = cc in absurd (omega arith)
+
+pub length_summed : (lines : List CostLine) (hs : List ℕ) → Summed lines hs → length hs ≡ length lines
+length_summed lines hs s = ap length s ∙ length-map lines (λ x. holding_before lines x.date)
 
 -- the sum kept for the line in force, and its holding cost in each period since its date
 pub held_told :
@@ -27,6 +30,10 @@ held_told lines hs k p x h d e s f a b q =
 
 pub line_told : (lines : List CostLine) (k p : ℕ) (x : CostLine) → lines_fault lines ≡ None → InForce lines k p → x ≡ slice_index_or lines k x → x ≡ line_at lines p
 line_told lines k p x e f a = get_or_read lines k x f.within a empty_line ∙ sym (line_at_lem lines k p e f)
+
+pub setup_told_lem : (lines : List CostLine) (j s : ℕ) → 1 ≤ j → s ≡ dated_setup lines j → Some s ≡ setup_told (dated_setup lines) j
+setup_told_lem lines j s o e =
+    ap Some e ∙ sym (cond-false (j == 0) None (Some (dated_setup lines j)) (ne_eqb j 0 (λ z. omega arith)))
 
 -- a price is told for making in j at the earliest in period 1, and for use in i then or later
 pub priced : (j i : ℕ) → unpriced j i ≡ false → (1 ≤ j) × (j ≤ i)

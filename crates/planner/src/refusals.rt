@@ -46,31 +46,27 @@ impl Refusal for ReadRefusal {
 #[derive(Clone, Copy, PartialEq, Eq, Debug)]
 pub enum TakeRefusal {
     // No lot is proved.
-    NoneProved,
+    NoneProved = 23,
 }
 
 impl Refusal for TakeRefusal {
     ghost numbered = { take_number };
 
     fn number(&self) -> u32 {
-        match self {
-            TakeRefusal::NoneProved => 23,
-        }
+        *self as u32
     }
 }
 
 #[derive(Clone, Copy, PartialEq, Eq, Debug)]
 pub enum RestRefusal {
     // No lot is left.
-    NoneLeft,
+    NoneLeft = 24,
 }
 
 impl Refusal for RestRefusal {
     ghost numbered = { rest_number };
 
     fn number(&self) -> u32 {
-        match self {
-            RestRefusal::NoneLeft => 24,
-        }
+        *self as u32
     }
 }

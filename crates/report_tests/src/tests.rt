@@ -8,7 +8,8 @@ mod at_once;
 mod parts;
 mod rolling;
 
-// The report of this input is this output.
+// The report of this input is this output. Tests pass a closure that calls the report, since a function of a private module of another
+// crate cannot be passed itself.
 fn prints<F: FnOnce(Global, &[u8]) -> Result<Vec<u8>, AllocError>>(
     rt: &(impl Abort + Alloc<A = Global>),
     report: F,

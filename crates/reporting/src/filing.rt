@@ -17,6 +17,7 @@ use std::alloc::{AllocError, Global};
 // Why there is no lot file: the input is refused, or memory did not suffice.
 pub type LotFileError = Failure<Refusal>;
 
+// In each crate for its own refusal, as for dated costs.
 impl From<Refusal> for LotFileError {
     ghost from_gives = { λ r e. e ≡ Refused r };
 

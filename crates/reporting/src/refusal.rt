@@ -19,8 +19,8 @@ pub enum Refusal {
     Read(ReadRefusal),
 }
 
-// A feed's fault tells its own number and place here. The library for C has refusals of its own that do the same in a line each;
-// one function for both would only be told which number a read's other refusals have.
+// A feed's fault tells its own number and place. The library for C has refusals of its own that do the same: two methods of the
+// refusal of a read, with definitions, contracts and edits, would save a line each.
 impl Numbered for Refusal {
     ghost numbered = { refusal_number };
 

@@ -13,6 +13,7 @@ use std::alloc::{AllocError, Global};
 // Why dated costs were not made: the lines are refused, or there was no memory to keep them.
 pub type DatedCostsError = Failure<DatedCostsFault>;
 
+// In each crate for its own refusal: one for every refusal would overlap with that of `AllocError`.
 impl From<DatedCostsFault> for DatedCostsError {
     ghost from_gives = { λ f r. r ≡ Refused f };
 
