@@ -10,6 +10,7 @@ use std::alloc::Global;
 // Why there is no file: the lots are refused, or there was no memory for its bytes.
 pub type FileError = Failure<WriteFault>;
 
+// In each crate for its own refusal, as for dated costs.
 impl From<WriteFault> for FileError {
     ghost from_gives = { λ fault r. r ≡ Refused fault };
 
