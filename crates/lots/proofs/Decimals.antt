@@ -1,39 +1,121 @@
--- Decimal numbers: the digits at the front and what they are worth, while they are walked over and at the end; and that what is written is read back.
-use Rattle.std.proofs.Common.{◌≡◌, ℕ, suc, ◌+◌, ◌-◌, ◌*◌, ◌^◌, ◌<◌, ◌≤◌, min, Bool, true, false, cond, ◌&&◌, eqb, ltb, ◌⊎◌, List, [], ◌∷◌, ◌++◌, length, get_or, take, IfSome, Some, None, decimal, Option, sym, refl, ap, ◌∙◌, subst, inl, inr, ⊎_elim, map, Iter, arith}
+-- One turn of the reader of decimal numbers, and what it has at its end; and that what is written is read back.
+use Rattle.std.proofs.Common.{◌≡◌, ℕ, suc, ◌+◌, ◌-◌, ◌*◌, ◌^◌, ◌<◌, ◌≤◌, min, Bool, true, false, cond, ◌&&◌, eqb, ltb, ◌⊎◌, List, [], ◌∷◌, ◌++◌, length, get_or, take, drop, IfSome, Some, None, decimal, Option, sym, refl, ap, ◌∙◌, subst, inl, inr, ⊎_elim, pow-suc, add-one, arith}
 use native.Mathlib.Nat.{pow-le-pow_right}
 use Rattle.std.specs.Char.{is_ascii_digit}
 use Rattle.std.specs.List.{prefix_len}
 use Rattle.std.specs.Str.{all_ascii_digits}
-use Rattle.std.specs.Iterator.{Yields}
-use Rattle.std.proofs.lemmas.Fn.{fronts}
-use denote.Ref.{Bor}
 use Rattle.std.proofs.lemmas.Fmt.{decimal_digit, decimal_nonempty, first_decimal, length-decimal-le, digits_decimal, digits_value-decimal}
-use Rattle.std.proofs.lemmas.List.{length-append, length-take, take-take, take-append-drop, take_all, map_push}
-use Rattle.std.proofs.lemmas.List.Folds.{length-prefix_len}
-use Rattle.std.proofs.lemmas.List.Sums.{fold_push}
+use Rattle.std.proofs.lemmas.List.{drop_more, drop_all}
 use Rattle.std.proofs.lemmas.Str.Parse.{IsNumeralModel, numerals_by_fold, tells_all_ascii_digits, digits_value_short}
 use Rattle.std.proofs.lemmas.Bool.{cond-true, cond-false, cond_both, cases_lt, and_parts, and_from}
 use Rattle.std.proofs.lemmas.Bool.Decides.{nat_tests}
 use Rattle.lots.specs.declared.decimal.Numeral.{Numeral}
 use Rattle.lots.specs.Decimals.{digits_at, worth, well_formed, number_at, field_at, stopped, Bounded, ReadsBack}
 
-in_digits : (c : ℕ) → is_ascii_digit c ≡ true → (48 ≤ c) × (c ≤ 57)
+-- after i digits that are worth v
+pub record Sofar (bs : List ℕ) (i v : ℕ) : Type 0 where
+  pub worth_is : worth 0 (digits_at bs) ≡ worth v (digits_at (drop i bs))
+  pub count : length (digits_at bs) ≡ i + length (digits_at (drop i bs))
+  pub small : v < 10 ^ i
+
+pub start : (bs : List ℕ) → Sofar bs 0 0
+start bs = record { worth_is = refl; count = omega arith; small = omega arith }
+
+pub in_digits : (c : ℕ) → is_ascii_digit c ≡ true → (48 ≤ c) × (c ≤ 57)
 in_digits c e = (grind (arith, nat_tests), grind (arith, nat_tests))
 
-digits_cons : (c : ℕ) (cs : List ℕ) → is_ascii_digit c ≡ true → digits_at (c ∷ cs) ≡ c ∷ digits_at cs
+pub digits_cons : (c : ℕ) (cs : List ℕ) → is_ascii_digit c ≡ true → digits_at (c ∷ cs) ≡ c ∷ digits_at cs
 unfolding digits_at
 digits_cons c cs e =
     let n = prefix_len is_ascii_digit cs in
     let one : 1 + n ≡ suc n = omega arith in
     ap (λ b. take (cond b (1 + n) 0) (c ∷ cs)) e ∙ ap (λ k. take k (c ∷ cs)) one
 
-digits_stop : (c : ℕ) (cs : List ℕ) → is_ascii_digit c ≡ false → digits_at (c ∷ cs) ≡ []
+pub digits_stop : (c : ℕ) (cs : List ℕ) → is_ascii_digit c ≡ false → digits_at (c ∷ cs) ≡ []
 unfolding digits_at
 digits_stop c cs e = ap (λ b. take (cond b (1 + prefix_len is_ascii_digit cs) 0) (c ∷ cs)) e
 
-digits_none : digits_at [] ≡ []
+pub digits_none : digits_at [] ≡ []
 unfolding digits_at
 digits_none = refl
+
+digits_more : (bs : List ℕ) (i : ℕ) → i < length bs → is_ascii_digit (get_or bs i 0) ≡ true → digits_at (drop i bs) ≡ get_or bs i 0 ∷ digits_at (drop (i + 1) bs)
+digits_more bs i l e = ap digits_at (drop_more bs i 0 l) ∙ digits_cons _ _ e
+
+one_more : (v c i : ℕ) → v < 10 ^ i → c ≤ 57 → v * 10 + (c - 48) < 10 ^ (i + 1)
+one_more v c i h l = omega (arith, ap (λ k. 10 ^ k) (add-one i) ∙ pow-suc 10 i)
+
+pub more : (bs : List ℕ) (i v : ℕ) → i < length bs → is_ascii_digit (get_or bs i 0) ≡ true → Sofar bs i v → Sofar bs (i + 1) (v * 10 + (get_or bs i 0 - 48))
+unfolding worth
+more bs i v l e h =
+    let d = digits_more bs i l e in
+    record {
+      worth_is = h.worth_is ∙ ap (worth v) d;
+      count = omega (arith, h.count, ap length d);
+      small = one_more v (get_or bs i 0) i h.small (in_digits _ e).1;
+    }
+
+-- the value fits 64 bits, since 19 digits do
+pub fits : (v i : ℕ) → v < 10 ^ i → i ≤ 18 → v < 10 ^ 18
+fits v i h l = omega (arith, pow-le-pow_right {n = 10} (omega arith) {i = i} {j = 18} l)
+
+-- the digits end at i
+pub digits_end : (bs : List ℕ) (i : ℕ) → length bs ≤ i → digits_at (drop i bs) ≡ []
+digits_end bs i l = ap digits_at (drop_all i bs l) ∙ digits_none
+
+pub digits_other : (bs : List ℕ) (i : ℕ) → i < length bs → is_ascii_digit (get_or bs i 0) ≡ false → digits_at (drop i bs) ≡ []
+digits_other bs i l e = ap digits_at (drop_more bs i 0 l) ∙ digits_stop _ _ e
+
+-- the digits begin with the text's first byte
+first : (bs : List ℕ) → 0 < length (digits_at bs) → get_or (digits_at bs) 0 0 ≡ get_or bs 0 0
+unfolding digits_at
+first [] h = refl
+first (c ∷ cs) h = go (is_ascii_digit c) refl
+  where
+    go : (t : Bool) → is_ascii_digit c ≡ t → get_or (digits_at (c ∷ cs)) 0 0 ≡ c
+    go true e = ap (λ l. get_or l 0 0) (digits_cons c cs e)
+    go false e = absurd (omega (arith, ap length (digits_stop c cs e)))
+
+first_digit : (bs : List ℕ) → 0 < length (digits_at bs) → 48 ≤ get_or bs 0 0
+first_digit [] h = absurd (omega (arith, ap length digits_none))
+first_digit (c ∷ cs) h = go (is_ascii_digit c) refl
+  where
+    go : (t : Bool) → is_ascii_digit c ≡ t → 48 ≤ c
+    go true e = (in_digits c e).0
+    go false e = absurd (omega (arith, ap length (digits_stop c cs e)))
+
+none_from : (most : ℕ) (bs : List ℕ) → well_formed most (digits_at bs) ≡ false → number_at most bs ≡ None
+unfolding number_at
+none_from most bs e = cond-false (well_formed most (digits_at bs)) _ _ e
+
+pub too_many : (most : ℕ) (bs : List ℕ) (i v : ℕ) → Sofar bs i v → i < length bs → is_ascii_digit (get_or bs i 0) ≡ true → (most ≤ i) ⊎ (19 ≤ i) → number_at most bs ≡ None
+unfolding well_formed
+too_many most bs i v h l e many =
+    let d = ap length (digits_more bs i l e) in
+    let long : min most 19 < length (digits_at bs) = ⊎_elim (λ m. omega (arith, h.count)) (λ m. omega (arith, h.count)) many in
+    none_from most bs (grind (arith, nat_tests))
+
+pub no_digit : (most : ℕ) (bs : List ℕ) (v : ℕ) → Sofar bs 0 v → digits_at (drop 0 bs) ≡ [] → number_at most bs ≡ None
+unfolding well_formed
+no_digit most bs v h e =
+    let z : length (digits_at bs) ≡ 0 = ap length e in
+    none_from most bs (grind (arith, nat_tests))
+
+pub leading_zero : (most : ℕ) (bs : List ℕ) (i v : ℕ) → Sofar bs i v → digits_at (drop i bs) ≡ [] → 1 < i → get_or bs 0 0 ≡ 48 → number_at most bs ≡ None
+unfolding well_formed
+leading_zero most bs i v h e two z =
+    let n : length (digits_at bs) ≡ i = omega (arith, h.count, ap length e) in
+    let f : get_or (digits_at bs) 0 0 ≡ 48 = first bs (omega arith) ∙ z in
+    none_from most bs (grind (arith, nat_tests))
+
+pub number_is : (most : ℕ) (bs : List ℕ) (i v : ℕ) → Sofar bs i v → digits_at (drop i bs) ≡ [] → 0 < i → i ≤ most → i ≤ 19 → (i ≤ 1) ⊎ (get_or bs 0 0 ≡ 48 → ⊥) → number_at most bs ≡ Some (record { value = v; length = i })
+unfolding well_formed number_at worth
+number_is most bs i v h e some few fit lead =
+    let n : length (digits_at bs) ≡ i = omega (arith, h.count, ap length e) in
+    let f : get_or (digits_at bs) 0 0 ≡ get_or bs 0 0 = first bs (omega arith) in
+    let w : worth 0 (digits_at bs) ≡ v = h.worth_is ∙ ap (worth v) e in
+    let ok : well_formed most (digits_at bs) ≡ true = ⊎_elim (λ l. grind (arith, nat_tests)) (λ l. let some_digit : 48 ≤ get_or bs 0 0 = first_digit bs (omega arith) in let higher : 48 < get_or bs 0 0 = omega (arith, l) in grind (arith, nat_tests)) lead in
+    cond-true (well_formed most (digits_at bs)) _ _ ok ∙ (λ j. Some (record { value = w j; length = n j }))
 
 all_digits : (bs : List ℕ) → (all_ascii_digits (digits_at bs) ≡ true) × (length (digits_at bs) ≤ length bs)
 all_digits [] = (ap all_ascii_digits digits_none, omega (arith, ap length digits_none))
@@ -78,76 +160,6 @@ field_bounded most stop bs = go (number_at most bs) (number_bounded most bs)
 -- what is told decides the bounds too
 pub number_told : (most : ℕ) (bs : List ℕ) (r : Option Numeral) → r ≡ number_at most bs → record { told : r ≡ number_at most bs; bounded : IfSome r (Bounded most bs) }
 number_told most bs r e = record { told = e; bounded = subst (λ o. IfSome o (Bounded most bs)) (sym e) (number_bounded most bs) }
-
-too_long : (most : ℕ) (ds : List ℕ) → 20 ≤ length ds → well_formed most ds ≡ false
-unfolding well_formed
-too_long most ds l = grind (arith, nat_tests)
-
-pub few_digits : (most : ℕ) (ds : List ℕ) → well_formed most ds ≡ true → length ds ≤ 19
-unfolding well_formed
-few_digits most ds w = grind (arith, nat_tests)
-
--- how many digits are counted until they are too many
-pub counted_front : (n : ℕ) (bs : List ℕ) (k : ℕ) → k ≡ length (take n (take (prefix_len is_ascii_digit bs) bs)) → take k bs ≡ take n (digits_at bs)
-unfolding digits_at
-counted_front n bs k e =
-    let p = prefix_len is_ascii_digit bs in
-    let short : k ≡ min n p = e ∙ length-take n (take p bs) ∙ ap (min n) (length-prefix_len is_ascii_digit bs) in
-    ap (λ j. take j bs) short ∙ ⊎_elim
-    (λ (l : n < p). ap (λ j. take j bs) (omega arith) ∙ sym (take-take n p bs (omega arith)))
-    (λ (l : p ≤ n). ap (λ j. take j bs) (omega arith) ∙ sym (take_all n (take p bs) (omega (arith, length-prefix_len is_ascii_digit bs))))
-    (cases_lt n p)
-
--- the number that digits make, if they are well formed
-abbrev pub made : ℕ → List ℕ → Option Numeral
-made most ds = cond (well_formed most ds) (Some (record { value = worth 0 ds; length = length ds })) None
-
--- 20 digits are too many, whatever follows them
-pub number_from : (most : ℕ) (bs ds : List ℕ) → ds ≡ take 20 (digits_at bs) → number_at most bs ≡ made most ds
-unfolding number_at
-number_from most bs ds e =
-    let whole : List ℕ = digits_at bs in
-    ⊎_elim
-    (λ (l : length whole < 20). ap (made most) (sym (e ∙ take_all 20 whole (omega arith))))
-    (λ (l : 20 ≤ length whole). let cut : 20 ≤ length ds = omega (arith, ap length e, length-take 20 whole) in
-    cond-false _ _ _ (too_long most whole l) ∙ sym (cond-false _ _ _ (too_long most ds cut)))
-    (cases_lt (length whole) 20)
-
--- of a walk over digits: what came so far, and the next one
-abbrev pub values : List (Bor ℕ) → List ℕ
-values xs = map (λ y. y.now) xs
-
-came : (xs : List (Bor ℕ)) (s t : Iter ℕ) → Yields fronts s xs t → s.rest.now ≡ values xs ++ t.rest.now
-came [] s t y = ap (λ z. z.rest.now) y
-came (x ∷ xs) s t y = y.1 ∙ ap (λ l. x.now ∷ l) (came xs y.0 t y.2)
-
-all_parts : (ds bs : List ℕ) → all_ascii_digits (ds ++ bs) ≡ true → (all_ascii_digits ds ≡ true) × (all_ascii_digits bs ≡ true)
-all_parts [] bs h = (refl, h)
-all_parts (a ∷ ds) bs h =
-    let p = and_parts (is_ascii_digit a) (all_ascii_digits (ds ++ bs)) h in
-    let q = all_parts ds bs p.1 in
-    (and_from _ _ p.0 q.0, q.1)
-
--- a step of the walk, and what is known before it
-pub one_digit_more : (xs : List (Bor ℕ)) (x : Bor ℕ) (v w : ℕ) → v ≡ worth 0 (values xs) → w ≡ v * 10 + (x.now - 48) → w ≡ worth 0 (values (xs ++ x ∷ []))
-unfolding worth
-one_digit_more xs x v w h e =
-    e ∙ ap (λ n. n * 10 + (x.now - 48)) h ∙ sym (fold_push (λ n c. n * 10 + (c - 48)) 0 (values xs) x.now) ∙ sym (ap (worth 0) (map_push (λ y. y.now) xs x))
-
-pub room_behind :
-    (ds : List ℕ) (xs : List (Bor ℕ)) (s t u : Iter ℕ) (x : Bor ℕ) → Yields fronts s xs t → fronts t (Some x) u → s.rest.now ≡ ds
-    → all_ascii_digits ds ≡ true → length ds ≤ 19 → (48 ≤ x.now) × (x.now ≤ 57) × (worth 0 (values xs) < 10 ^ 18)
-room_behind ds xs s t u x y f e all few =
-    let whole : ds ≡ values xs ++ x.now ∷ u.rest.now = sym e ∙ came xs s t y ∙ ap (λ l. values xs ++ l) f in
-    let long = length-append (values xs) (x.now ∷ u.rest.now) in
-    let parts = all_parts (values xs) (x.now ∷ u.rest.now) (ap all_ascii_digits (sym whole) ∙ all) in
-    let digit = in_digits x.now (and_parts (is_ascii_digit x.now) _ parts.1).0 in
-    (digit.0, digit.1, digits_value_short own (values xs) 18 parts.0 (omega (arith, long, ap length whole)))
-
-pub front_digits : (bs ds : List ℕ) → ds ≡ take 20 (digits_at bs) → all_ascii_digits ds ≡ true
-front_digits bs ds e =
-    let whole = take-append-drop 20 (digits_at bs) in
-    ap all_ascii_digits e ∙ (all_parts (take 20 (digits_at bs)) _ (ap all_ascii_digits whole ∙ (all_digits bs).0)).0
 
 first_is : (n : ℕ) → n < 2 ^ 64 → (48 < get_or (decimal n) 0 0) ⊎ (length (decimal n) ≡ 1)
 first_is n fit = ⊎_elim (λ (z : n < 1). inr (ap length (decimal_digit n (omega arith)))) (λ h. inl (first_decimal n h fit)) (cases_lt n 1)

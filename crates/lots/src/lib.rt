@@ -11,7 +11,7 @@ mod tests;
 pub mod word;
 
 pub use dated::{DatedFault, DatedLine, FirstDate, Refusal, check_dated};
-pub use decimal::Numeral;
+pub use decimal::{Decimal, Numeral};
 pub use failure::Failure;
 pub use lot::{Lot, LotKind};
 pub use word::{Word, WordKind};
