@@ -63,6 +63,16 @@ search_finds (x ∷ xs) p i e o h s calls =
     last_begun x xs p i e o (rw t at h)
     (IsPartitionPoint-from_clause (λ y. leb y.line.date p) xs i (rw t at s) (IsPartitionedBy-leb (λ y. y.line.date) xs p parted) calls)
 
+-- a single line is in force from the start
+pub alone : (xs : List HeldLine) (p : ℕ) → lines_fault (map line_of xs) ≡ None → 1 ≤ p → length xs < 2 → InForce (map line_of xs) 0 p
+alone xs p e o s =
+    let f = first_dated (map line_of xs) e in
+    record {
+      within = omega (arith, f.0);
+      begun = omega (arith, f.2);
+      unended = λ l. absurd (omega (arith, s, length-map xs line_of));
+    }
+
 -- what is kept with the line in force
 pub record Known (lines : List CostLine) (p : ℕ) (x : HeldLine) : Type 0 where
   pub begun : x.line.date ≤ p

@@ -48,10 +48,25 @@ impl Model for DatedCosts {
 }
 
 impl DatedCosts {
-    // The line in force in period p. One copy of the search serves all prices: with copies
-    // in line, calls over 64 lines and 500 periods took 5 to 17 of 100 longer.
-    #[inline(never)]
+    // The line in force in period p. Where costs never change there is one line, and nothing to search: without this a price of one
+    // line took twice as long.
+    #[inline]
     fn in_force(&self, p: u32) -> &HeldLine
+        requires { 1 ≤ p }
+        ensures begun { result.now.line.date ≤ p }
+        ensures line { result.now.line ≡ line_at self.now.lines p }
+        ensures held { result.now.held + result.now.line.holding * (p - result.now.line.date) ≡ holding_before self.now.lines p }
+    {
+        match &self.lines[..] {
+            [only] => only,
+            _ => self.searched(p),
+        }
+    }
+
+    // The same by a search. One copy of it serves all prices: with copies in line, calls over 64 lines and 500 periods took 5 to 17
+    // of 100 longer.
+    #[inline(never)]
+    fn searched(&self, p: u32) -> &HeldLine
         requires { 1 ≤ p }
         ensures begun { result.now.line.date ≤ p }
         ensures line { result.now.line ≡ line_at self.now.lines p }

@@ -1,34 +1,19 @@
-use Rattle.std.proofs.Common.{rules, vec_items, arith}
-use Rattle.std.proofs.lemmas.List.{length-map}
-use Rattle.costs.specs.InForce.{first_dated}
+use Rattle.std.proofs.Common.{vec_items, length, ◌<◌}
 use Rattle.costs.specs.Told.{none_of}
-use Rattle.costs.proofs.Searching.{line_of, search_finds, known, Known}
+use Rattle.costs.proofs.Searching.{alone, known, Known}
 use Rattle.costs.proofs.dated.DatedCosts.in_force.Goals as goal
 
-pub slice_bounds-partition_point-count : goal.slice_bounds-partition_point-count
-slice_bounds-partition_point-count c =
-    omega (arith, (first_dated _ (none_of _ c.self.inside.right)).0, length-map (vec_items c.self.inside.lines) line_of, c.deref.ensures.len)
-
-pub index-requires : goal.index-requires
-index-requires c =
-    let f = search_finds c.deref.result.now c.args.p _ (rw c.deref.ensures.value (none_of _ c.self.inside.right)) c.requires c.partition_point-later.ensures.bound c.partition_point-later.ensures.partitioned (λ a r q k. search rules) in
-    omega (arith, f.within, length-map c.deref.result.now line_of, c.deref.ensures.len)
-
-stands : (c : goal.After-index) → Known c.args.self.now.lines c.args.p c.index.result.now
+stands : (c : goal.After-only-item) → Known c.args.self.now.lines c.args.p c.only-item.result
 stands c =
     let e = none_of _ c.self.inside.right in
-    let f = search_finds c.deref.result.now c.args.p _ (rw c.deref.ensures.value e) c.requires c.partition_point-later.ensures.bound c.partition_point-later.ensures.partitioned (λ a r q k. search rules) in
-    rw (← c.self.view_is) (known (vec_items c.self.inside.lines) c.args.p _ c.index.result.now e c.self.invariant (rw c.deref.ensures.value at f) c.index.ensures)
+    let short : length (vec_items c.self.inside.lines) < 2 = rw c.deref.ensures.value at c.in-len1.len_below in
+    rw (← c.self.view_is) (known (vec_items c.self.inside.lines) c.args.p 0 c.only-item.result e c.self.invariant (alone _ _ e c.requires short) (rw c.deref.ensures.value at c.only-item.is))
 
-pub returns-clause-begun : goal.returns-clause-begun
-returns-clause-begun c = (stands c).begun
+pub returns-in-len1-clause-begun : goal.returns-in-len1-clause-begun
+returns-in-len1-clause-begun c = (stands c).begun
 
-pub returns-clause-line : goal.returns-clause-line
-returns-clause-line c = (stands c).line
+pub returns-in-len1-clause-line : goal.returns-in-len1-clause-line
+returns-in-len1-clause-line c = (stands c).line
 
-pub returns-clause-held : goal.returns-clause-held
-returns-clause-held c = (stands c).held
-
-pub slice_bounds-partition_point-start : goal.slice_bounds-partition_point-start
-slice_bounds-partition_point-start c =
-    omega (arith, (first_dated _ (none_of _ c.self.inside.right)).0, length-map (vec_items c.self.inside.lines) line_of, c.deref.ensures.len)
+pub returns-in-len1-clause-held : goal.returns-in-len1-clause-held
+returns-in-len1-clause-held c = (stands c).held
