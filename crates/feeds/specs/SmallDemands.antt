@@ -1,4 +1,4 @@
--- Proofs that no demand of a feed is above 1,000,000, which each feed cites as a law.
+-- Proofs that no demand of a feed is above 1,000,000: each format cites its own as a law, and netting the last one for its `next`.
 use Rattle.std.specs.Prelude.{ℕ, zero, suc, ◌+◌, ◌≤◌, List, [], ◌∷◌, length, drop, IfSome, IfOk, Some, None, Ok, Err, Option, Result}
 use Rattle.std.proofs.Common.{Bool, true, false, leb, ltb, eqb, arith}
 use Rattle.std.proofs.lemmas.Bool.{cond_both, leb-true}

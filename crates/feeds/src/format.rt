@@ -76,6 +76,4 @@ impl<F: Format> Feed for ByteFeed<'_, F> {
     fn place(&self) -> usize {
         self.at.place
     }
-
-    ghost small = { λ f. F.small f.at.text.now f.at.place f.at.handed };
 }

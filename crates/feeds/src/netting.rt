@@ -1,7 +1,6 @@
 // The netting layer: over any feed, what stock and receipts leave of its demands; itself a feed.
 ghost use Rattle.std.specs.Prelude.{◌≡◌};
 ghost use Rattle.feeds.specs.Netting.{net_of, risen, above};
-ghost use Rattle.feeds.specs.SmallDemands.{net_small};
 
 use crate::fault::FeedFault;
 use crate::feed::Feed;
@@ -48,6 +47,4 @@ impl<F: Feed> Feed for Netting<F> {
     fn place(&self) -> usize {
         self.feed.place()
     }
-
-    ghost small = { λ n. net_small _ _ _ _ (F.small n.feed) };
 }

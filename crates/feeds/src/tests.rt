@@ -1,3 +1,7 @@
+ghost use Rattle.std.specs.Prelude.{option_to_list};
+ghost use Rattle.theory.specs.Endings.{finished_feed};
+
+use crate::fault::FeedFault;
 use crate::feed::Feed;
 use crate::netting::Netting;
 use crate::orders::OrderFeed;
@@ -224,5 +228,41 @@ fn netting_refuses(rt: HostRuntime) -> Result<(), Fail> {
         5
     );
     assert_eq!(rt; refusal(&rt, heap, 0, &[large, late])?, 7);
+    Ok(())
+}
+
+// A feed of one demand at most. It is small because it is a byte, and nothing else says so.
+#[derive(Drop)]
+struct Once {
+    left: Option<u8>,
+}
+
+impl Feed for Once {
+    ghost demands = { λ f. option_to_list f.left };
+
+    ghost ending = { λ f. finished_feed };
+
+    ghost reached = { λ f. 0 };
+
+    fn next(&mut self) -> Result<Option<u32>, FeedFault> {
+        match self.left {
+            Some(demand) => {
+                self.left = None;
+                Ok(Some(u32::from(demand)))
+            }
+            None => Ok(None),
+        }
+    }
+
+    fn place(&self) -> usize {
+        0
+    }
+}
+
+#[test]
+fn a_byte_is_a_small_demand(rt: HostRuntime) -> Result<(), Fail> {
+    let mut feed = Once { left: Some(7) };
+    assert_eq!(rt; feed.next()?, Some(7));
+    assert_eq!(rt; feed.next()?, None);
     Ok(())
 }

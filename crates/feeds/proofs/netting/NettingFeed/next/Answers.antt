@@ -2,6 +2,7 @@ use Rattle.std.proofs.Common.{◌≡◌, [], Ok, Err, sym, ap, ◌∙◌}
 use Rattle.std.proofs.lemmas.Result.{err_from_is_err_and}
 use Rattle.theory.specs.Endings.{finished_feed, faulty_feed}
 use Rattle.feeds.specs.Feeding.{others}
+use Rattle.feeds.specs.SmallDemands.{net_small}
 use Rattle.feeds.proofs.Layers.{below_fault, below_demand, told_fault, told_finished, net_none, tell_fault, tell_finished, none_left}
 use Rattle.feeds.proofs.netting.NettingFeed.next.Goals as goal
 use Rattle.feeds.proofs.netting.NettingFeed.next.Goals.{After-from_residual, In_default}
@@ -30,3 +31,12 @@ returns-in_default-clause-told g c = let is = end_is g c in tell_finished _ _ (n
 pub returns-in_default-clause-others : goal.returns-in_default-clause-others
 returns-in_default-clause-others g c =
     let is = end_is g c in none_left _ _ (net_none _ _ _ _ is.0) (net_none _ _ _ _ (c.next.ensures.others ∙ ap others is.0))
+
+pub returns-in_err-gross-clause-small : goal.returns-in_err-gross-clause-small
+returns-in_err-gross-clause-small g c = net_small _ _ _ _ c.next.ensures.small
+
+pub returns-in_default-clause-small : goal.returns-in_default-clause-small
+returns-in_default-clause-small g c = net_small _ _ _ _ c.next.ensures.small
+
+pub returns-clause-small : goal.returns-clause-small
+returns-clause-small g c = net_small _ _ _ _ c.next.ensures.small
