@@ -9,6 +9,7 @@ pub mod Proven
 pub mod Moving
 pub mod Feeding
 pub mod Planning
+pub mod Standing
 pub mod Following
 pub mod Taking
 pub mod Emptied

@@ -1,5 +1,5 @@
 -- What a closed planner hands out.
-use Rattle.std.specs.Prelude.{◌≡◌, ℕ, List, map, Some, None, Ok, Err, Option, Result}
+use Rattle.std.specs.Prelude.{◌≡◌, ℕ, ◌≤◌, List, map, Some, None, Ok, Err, Option, Result}
 use Rattle.lots.specs.Lots.{Terms, terms}
 use Rattle.lots.specs.declared.lot.Lot.{Lot}
 use Rattle.lots.specs.declared.lot.LotKind.TheVariants.{Closing}
@@ -11,6 +11,7 @@ use Rattle.planner.specs.declared.refusals.RestRefusal.TheVariants.{NoneLeft}
 use Rattle.planner.specs.Answers.{handed_lot}
 use Rattle.planner.specs.Describing.{Window, reading, Describes}
 use Rattle.planner.specs.Lots.{handed}
+use Rattle.planner.specs.Standing.{Leaving}
 
 -- a plan's next lot as closing, with the periods read as evidence, or the refusal that none is left
 abbrev pub rest_of : ℕ → Option recursion.Lot → Result Terms RestRefusal
@@ -30,6 +31,10 @@ rest_told (Err r) = Err r
 abbrev pub rest_after : Result Lot RestRefusal → ℕ → ℕ
 rest_after (Ok y) after = y.through
 rest_after (Err r) after = after
+
+-- a closed planner has moved on to this period, and is otherwise as it was
+abbrev pub MovedOn : {F M : Type 0} → Leaving F M → ℕ → Leaving F M → Type 0
+MovedOn p through q = (onward : p.rows.base ≤ through) × (q ≡ record p { after = through; onward = onward })
 
 -- a rest tells what it is due, in every case that the window describes
 abbrev pub TellsRest : Window → ℕ → Result Lot RestRefusal → Type 0

@@ -1,4 +1,7 @@
 // The rolling planner: it reads one period after another and freezes each lot as soon as it is proved.
+ghost use Rattle.planner.specs.Proving.{TellsProved};
+ghost use Rattle.planner.specs.Windows.{window};
+
 use crate::rows::Rows;
 use crate::rows::row::Span;
 use std::marker::Model;
@@ -15,19 +18,14 @@ pub struct Planner<F, M> {
     rows: Rows,
     // The lot that is proved now, if any.
     proved: Option<Span>,
+    ghost right: { TellsProved (window rows) proved },
 }
 
-// Callers see where it stands; the lot that is kept is always the one that the rows prove. Each call says so of what it leaves, as
-// it says that the model is as it was: callers are shown the value alone, and a value that held the proof would make planners equal
-// only where their proofs are.
+// Callers see where it stands, and that the lot that is kept is always the one that the rows prove.
 impl<F, M> Model for Planner<F, M> {
-    ghost use Rattle.planner.specs.Proving.{TellsProved};
     ghost use Rattle.planner.specs.Standing.{Standing};
-    ghost use Rattle.planner.specs.Windows.{window};
 
     ghost Value = { Standing F M };
 
-    ghost view = { λ p. record { feed = p.feed; model = p.model; rows = p.rows; proved = p.proved } };
-
-    ghost invariant = { λ p. TellsProved (window p.rows) p.proved };
+    ghost view = { λ p. record { feed = p.feed; model = p.model; rows = p.rows; proved = p.proved; right = p.right } };
 }

@@ -1,9 +1,10 @@
 // Closing a planner and emptying it.
-ghost use Rattle.std.specs.Prelude.{◌≡◌, ◌<◌, ◌≤◌, IfOk};
+ghost use Rattle.std.specs.Prelude.{◌≡◌, ◌<◌, ◌≤◌, IfOk, OnErr};
 ghost use Rattle.std.specs.List.{AllByRecursion};
+ghost use Rattle.std.proofs.Math.Nat.{le_refl};
 ghost use Rattle.lots.specs.declared.lot.LotKind.TheVariants.{Closing};
 ghost use Rattle.planner.specs.Describing.{reading};
-ghost use Rattle.planner.specs.Resting.{rest_after, TellsRest, EmptiesTo};
+ghost use Rattle.planner.specs.Resting.{rest_after, MovedOn, TellsRest, EmptiesTo};
 ghost use Rattle.planner.specs.Windows.{window};
 
 use crate::closed::Closed;
@@ -15,7 +16,7 @@ use std::alloc::{AllocError, Global};
 impl<F, M> Closed<F, M> {
     // What is left of the rows' plan is all that is handed out.
     pub(crate) fn new(feed: F, model: M, rows: Rows) -> Closed<F, M>
-        ensures { result ≡ record { feed = feed; model = model; rows = rows; after = rows.base } }
+        ensures { result ≡ record { feed = feed; model = model; rows = rows; after = rows.base; onward = le_refl rows.base } }
     {
         let after = rows.base();
         Closed {
@@ -31,7 +32,8 @@ impl<F, M> Closed<F, M> {
         ensures due { TellsRest (window self.old.rows) self.old.after result }
         ensures closing { IfOk result (λ y. y.kind ≡ Closing) }
         ensures onward { IfOk result (λ y. (self.old.after < y.through) × (y.through ≤ reading (window self.old.rows))) }
-        ensures left { self.new ≡ record self.old { after = rest_after result self.old.after } }
+        ensures left { MovedOn self.old (rest_after result self.old.after) self.new }
+        ensures refused { OnErr result (self.new ≡ self.old) }
         ensures within { self.new.rows.base ≤ self.new.after }
     {
         let Some(span) = self.rows.next_span(self.rows.read(), self.after) else {

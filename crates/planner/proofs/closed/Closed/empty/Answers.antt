@@ -13,9 +13,9 @@ loop-lot-preserved g c =
     let pushed = chosen _ _ _ _ c.push.ensures.items (ap is_ok c.in_ok-push.was) in
     let told = c.in-Ok.ensures in
     let same = c.loop-lot.invariant.0 in (
-      ap (λ p. p.rows) told.left ∙ same,
+      ap (λ p. p.rows) told.left.1 ∙ same,
       rests_more _ _ _ _ c.in-Ok.lot _ _ c.loop-lot.invariant.1 (subst (λ r. TellsRest (window r) c.loop-lot.self.after (Ok c.in-Ok.lot)) same told.due)
-          (ap (λ p. p.after) told.left) pushed,
+          (ap (λ p. p.after) told.left.1) pushed,
       subst (AllByRecursion (λ y. y.kind ≡ Closing)) (sym pushed) (all_by_recursion_push _ _ _ c.loop-lot.invariant.2 told.closing),
     )
 

@@ -1,4 +1,4 @@
-use Rattle.std.proofs.Common.{◌≤◌, Ok, sym, ap, ◌∙◌, arith}
+use Rattle.std.proofs.Common.{◌≤◌, Ok, sym, refl, ap, ◌∙◌, arith}
 use Rattle.std.specs.Option.{option_map}
 use Rattle.lots.specs.declared.lot.LotKind.TheVariants.{Closing}
 use Rattle.theory.specs.Recursion.{plan}
@@ -17,13 +17,16 @@ ends_after : (g : given.Over) (c : In-Some g) → c.self.inside.rows.base ≤ c.
 ends_after g c =
     let r = c.self.inside.rows in
     let sp = c.in-Some.ensures.spans in
-    omega (arith, forward (window r) r.sound _ (spans_base (window r) _ _ c.self.invariant sp), sp.later, c.self.invariant)
+    omega (arith, forward (window r) r.sound _ (spans_base (window r) _ _ c.self.inside.onward sp), sp.later, c.self.inside.onward)
 
-pub invariant_of-self : goal.invariant_of-self
-invariant_of-self g c = ends_after g (goal.at.invariant_of-self g c).In-Some
+pub invariant_of-self-inside : goal.invariant_of-self-inside
+invariant_of-self-inside g c = (ends_after g (goal.at.invariant_of-self-inside g c).In-Some, tt)
 
-pub returns-clause-within : goal.returns-clause-within
-returns-clause-within g c = ends_after g (goal.at.returns-clause-within g c).In-Some
+pub returns-in_default-clause-left : goal.returns-in_default-clause-left
+returns-in_default-clause-left g c = rw (← c.self.view_is) (c.self.inside.onward, refl)
+
+pub returns-clause-left : goal.returns-clause-left
+returns-clause-left g c = rw (← c.self.view_is, c.lot.ensures.through) (_, refl)
 
 pub returns-clause-due : goal.returns-clause-due
 returns-clause-due g c =
@@ -38,5 +41,5 @@ pub returns-clause-onward : goal.returns-clause-onward
 returns-clause-onward g c =
     let r = c.self.inside.rows in
     let sp = c.in-Some.ensures.spans in
-    let ahead = forward (window r) r.sound _ (spans_base (window r) _ _ c.self.invariant sp) in
+    let ahead = forward (window r) r.sound _ (spans_base (window r) _ _ c.self.inside.onward sp) in
     rw (← c.self.view_is) (omega (arith, ahead, sp.later, c.lot.ensures.through), omega (arith, sp.read, c.lot.ensures.through))

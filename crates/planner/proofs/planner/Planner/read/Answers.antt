@@ -8,18 +8,19 @@ use Rattle.planner.specs.Standing.{forecast}
 use Rattle.planner.specs.Windows.{window}
 use Rattle.planner.proofs.Feeding.{told_some, told_end, told_fault}
 use Rattle.planner.proofs.Following.{grown_reads, stays, stays_so, waits, full, limit, ended, faulty, goes_on, some_told, none_told}
+use Rattle.planner.proofs.Standing.{same_feed}
 use Rattle.planner.proofs.planner.Planner.read.Given as given
 use Rattle.planner.proofs.planner.Planner.read.Goals as goal
 use Rattle.planner.proofs.planner.Planner.read.Goals.{Else-is_some, In_default}
 
 -- nothing is proved where the first test failed
 unproved : (g : given.Over) (c : Else-is_some g) → TellsProved (window c.self.inside.rows) None
-unproved g c = none_told _ _ (sym c.is_some.ensures ∙ c.if-is_some.false) c.self.invariant
+unproved g c = none_told _ _ (sym c.is_some.ensures ∙ c.if-is_some.false) c.self.inside.right
 
 pub returns-then-is_some-clause-follows : goal.returns-then-is_some-clause-follows
 returns-then-is_some-clause-follows g c = rw (← c.self.view_is)
     (λ all es tr.
-    let some = some_told _ _ (sym c.is_some.ensures ∙ c.if-is_some.true) c.self.invariant in
+    let some = some_told _ _ (sym c.is_some.ensures ∙ c.if-is_some.true) c.self.inside.right in
     stays _ all es _ tr read_call _ (waits _ all es _ tr some.0 some.1))
 
 pub returns-then-len-ge-WINDOW-clause-follows : goal.returns-then-len-ge-WINDOW-clause-follows
@@ -49,9 +50,8 @@ returns-in_default-clause-follows g c =
 
 pub returns-in_default-clause-refused : goal.returns-in_default-clause-refused
 returns-in_default-clause-refused g c =
-    let p = c.self.inside in
     let end = ended_feed g (goal.at.returns-in_default-clause-refused g c).In_default in
-    rw (← c.self.view_is) (ap (λ f. record { feed = f; model = p.model; rows = p.rows; proved = p.proved }) end.2)
+    rw (← c.self.view_is) (same_feed _ _ _ end.2)
 
 pub returns-in_err-demand : goal.returns-in_err-demand
 returns-in_err-demand g c =
@@ -66,8 +66,8 @@ returns-in_err-demand g c =
           (faulty _ all es _ tr (unproved g (goal.at.returns-in_err-demand g c).Else-is_some) (omega (arith, c.len.ensures)) (omega (arith, c.read.ensures)) end.0 _ end.1);
       onward = rw out.1 tt;
       model = refl;
-      proved = c.self.invariant;
-      refused = rw out.1 (ap (λ f. record { feed = f; model = p.model; rows = p.rows; proved = p.proved }) same);
+      proved = c.self.inside.right;
+      refused = rw out.1 (same_feed _ _ _ same);
     })
 
 pub returns-clause-follows : goal.returns-clause-follows

@@ -10,12 +10,12 @@ use Rattle.planner.proofs.planner.Planner.take.Goals.{In-Some}
 
 -- the span is that of the lot that is proved
 told : (g : given.Over) (c : In-Some g) → TellsProved (window c.self.inside.rows) (Some c.in-Some.span)
-told g c = subst (TellsProved (window c.self.inside.rows)) c.in-Some.is c.self.invariant
+told g c = subst (TellsProved (window c.self.inside.rows)) c.in-Some.is c.self.inside.right
 
 pub returns-in_default-clause-follows : goal.returns-in_default-clause-follows
 returns-in_default-clause-follows g c = rw (← c.self.view_is)
     (λ all es tr.
-    stays _ all es _ tr take_call _ (untaken _ all es _ tr (subst (TellsProved (window c.self.inside.rows)) c.in_default.is c.self.invariant)))
+    stays _ all es _ tr take_call _ (untaken _ all es _ tr (subst (TellsProved (window c.self.inside.rows)) c.in_default.is c.self.inside.right)))
 
 pub lot-lot-requires : goal.lot-lot-requires
 lot-lot-requires g c =
