@@ -27,7 +27,7 @@ costs_of_line bs (Some l) = elim (cost_fault l.setup l.unit l.holding) [ None �
 unfoldable pub costs_due : List ℕ → Result Priced Refusal
 costs_due bs = cond (nat_lt 65536 (length bs)) (Err TooLong) (costs_of_line bs (cost_line_of bs))
 
--- a model and the bytes behind its line by their values
-abbrev pub costs_told : Result CostsOf Refusal → Result Priced Refusal
-costs_told (Ok c) = Ok (record { setup = c.model.setup; unit = c.model.unit; holding = c.model.holding; rest = c.rest.now })
-costs_told (Err r) = Err r
+-- a model by its values, and the bytes of bs behind its line
+abbrev pub costs_told : List ℕ → Result CostsOf Refusal → Result Priced Refusal
+costs_told bs (Ok c) = Ok (record { setup = c.model.setup; unit = c.model.unit; holding = c.model.holding; rest = drop c.length bs })
+costs_told bs (Err r) = Err r

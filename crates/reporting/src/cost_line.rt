@@ -5,7 +5,7 @@ ghost use Rattle.reporting.specs.CostLines.{cost_line_of};
 use lots::decimal::{Numeral, field};
 
 // The setup charge, the unit cost and the holding cost that the line names, and how many bytes it takes: a sum of the lengths
-// that the readers of numbers tell. `Costs` hands on the bytes behind it.
+// that the readers of numbers tell.
 #[derive(Clone, Copy, PartialEq, Eq, Debug)]
 pub struct CostLine {
     pub setup: u64,

@@ -47,7 +47,11 @@ pub fn file_input<F: Format, P: Planning>(
     ensures { FiledAs (file_of_plan (input_plan P.due (λ text. F.forecast text 0 0) input.now)) result }
 {
     let costs = costs_of(input)?;
-    let planned = P::plan(heap, ByteFeed::<F>::new(costs.rest), costs.model)?;
+    let planned = P::plan(
+        heap,
+        ByteFeed::<F>::new(&input[costs.length..]),
+        costs.model,
+    )?;
     if let Some(refusal) = planned.stop {
         return Err(LotFileError::Refused(Refusal::Read(refusal)));
     }

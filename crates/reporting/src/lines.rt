@@ -1,9 +1,10 @@
 // The lines that are printed, each with its line feed.
+// Every number that the programs print goes through the one printer of `lots`: what it writes, `number` reads back.
 ghost use Rattle.std.specs.Prelude.{◌≡◌, Some};
 ghost use Rattle.lots.specs.Lots.{terms};
 ghost use Rattle.reporting.specs.Lines.{word_of_kind, lot_line, total_line, line_of_refusal};
 
-use lots::{Lot, LotKind};
+use lots::{Decimal, Lot, LotKind};
 use std::fmt;
 
 // A word and no `Display` for `LotKind`, which would have to stand in `lots`, where nothing is printed.
@@ -33,7 +34,15 @@ impl fmt::Display for LotLine {
             evidence,
         } = self.0;
         let kind = kind_word(kind);
-        writeln!(f, "{kind} {from} {through} {amount} {cost} {evidence}")
+        writeln!(
+            f,
+            "{kind} {} {} {} {} {}",
+            Decimal(u64::from(from)),
+            Decimal(u64::from(through)),
+            Decimal(u64::from(amount)),
+            Decimal(cost),
+            Decimal(u64::from(evidence)),
+        )
     }
 }
 
@@ -45,7 +54,7 @@ impl fmt::Display for TotalLine {
     ghost output = { λ l. Some (total_line l.0) };
 
     fn fmt<W: fmt::Write>(&self, f: &mut fmt::Formatter<W>) -> fmt::Result {
-        writeln!(f, "total {}", self.0)
+        writeln!(f, "total {}", Decimal(self.0))
     }
 }
 
@@ -60,6 +69,11 @@ impl fmt::Display for RefusalLine {
     ghost output = { λ l. Some (line_of_refusal l.number l.place) };
 
     fn fmt<W: fmt::Write>(&self, f: &mut fmt::Formatter<W>) -> fmt::Result {
-        writeln!(f, "refused {} at {}", self.number, self.place)
+        writeln!(
+            f,
+            "refused {} at {}",
+            Decimal(u64::from(self.number)),
+            Decimal(self.place as u64),
+        )
     }
 }

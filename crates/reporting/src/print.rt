@@ -69,7 +69,11 @@ pub fn print_input<F: Format, P: Planning>(
 {
     match costs_of(input) {
         Ok(costs) => {
-            let planned = P::plan(heap, ByteFeed::<F>::new(costs.rest), costs.model)?;
+            let planned = P::plan(
+                heap,
+                ByteFeed::<F>::new(&input[costs.length..]),
+                costs.model,
+            )?;
             print_plan(heap, &planned)
         }
         Err(refusal) => refusal_line(heap, refusal),

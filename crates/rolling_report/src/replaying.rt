@@ -74,7 +74,12 @@ pub fn replay(heap: Global, calls: &[Call], input: &[u8]) -> Result<Vec<u8>, All
 {
     match costs_of(input) {
         Ok(costs) => {
-            let series = run_series(heap, TextFeed::new(costs.rest), costs.model, calls)?;
+            let series = run_series(
+                heap,
+                TextFeed::new(&input[costs.length..]),
+                costs.model,
+                calls,
+            )?;
             print_series(heap, &series)
         }
         Err(refusal) => refusal_line(heap, refusal),
