@@ -12,7 +12,7 @@ length_word : (k : WordKind) (n : ℕ) → length (word_bytes k n) ≡ 4
 unfolding word_bytes
 length_word k n = refl
 
-length_words : (ws : List (WordKind × ℕ)) → length (words_bytes ws) ≡ 4 * length ws
+pub length_words : (ws : List (WordKind × ℕ)) → length (words_bytes ws) ≡ 4 * length ws
 length_words [] = refl
 length_words (w ∷ ws) = omega (arith, length-append (word_bytes w.0 w.1) (words_bytes ws), length_word w.0 w.1, length_words ws)
 
