@@ -73,17 +73,6 @@ alone xs p e o s =
       unended = λ l. absurd (omega (arith, s, length-map xs line_of));
     }
 
--- a line that has begun is in force where the next one has not
-pub stays : (xs : List HeldLine) (k p : ℕ) (next : HeldLine) → k < length (map line_of xs) → (get_or (map line_of xs) k empty_line).date ≤ p
-    → next ≡ get_or xs (k + 1) next → p < next.line.date → InForce (map line_of xs) k p
-stays xs k p next w b s l =
-    let here : get_or xs (suc k) next ≡ next = ap (λ m. get_or xs m next) (sym (add-one k)) ∙ sym s in
-    record {
-      within = w;
-      begun = b;
-      unended = λ m. omega (arith, l, ap (λ y. y.line.date) here, date_at xs (suc k) next (omega (arith, m, length-map xs line_of)));
-    }
-
 -- what is kept with the line in force
 pub record Known (lines : List CostLine) (p : ℕ) (x : HeldLine) : Type 0 where
   pub begun : x.line.date ≤ p

@@ -1,5 +1,5 @@
-ghost use Rattle.std.specs.Prelude.{◌≡◌, ◌<◌, ◌≤◌, ◌+◌, ◌*◌, ◌-◌, false, map, is_some, length, slice_index_or};
-ghost use Rattle.costs.specs.Dated.{dated_setup, dated_price, holding_before, lines_fault, line_at, empty_line, InForce};
+ghost use Rattle.std.specs.Prelude.{◌≡◌, ◌<◌, ◌≤◌, ◌+◌, ◌*◌, ◌-◌, false, map, is_some};
+ghost use Rattle.costs.specs.Dated.{dated_setup, dated_price, holding_before, lines_fault, line_at};
 ghost use Rattle.costs.specs.Held.{dated_lawful};
 ghost use Rattle.costs.specs.Told.{none_of};
 
@@ -48,14 +48,17 @@ impl Model for DatedCosts {
 }
 
 impl DatedCosts {
-    // The place of the line in force in period p. Where costs never change there is one line, and nothing to search.
+    // The line in force in period p. Where costs never change there is one line, and nothing to search: without this a price of one
+    // line took twice as long.
     #[inline]
-    fn in_force(&self, p: u32) -> usize
+    fn in_force(&self, p: u32) -> &HeldLine
         requires { 1 ≤ p }
-        ensures { InForce self.now.lines result p }
+        ensures begun { result.now.line.date ≤ p }
+        ensures line { result.now.line ≡ line_at self.now.lines p }
+        ensures held { result.now.held + result.now.line.holding * (p - result.now.line.date) ≡ holding_before self.now.lines p }
     {
         match &self.lines[..] {
-            [_] => 0,
+            [only] => only,
             _ => self.searched(p),
         }
     }
@@ -63,37 +66,15 @@ impl DatedCosts {
     // The same by a search. One copy of it serves all prices: with copies in line, calls over 64 lines and 500 periods took 5 to 17
     // of 100 longer.
     #[inline(never)]
-    fn searched(&self, p: u32) -> usize
+    fn searched(&self, p: u32) -> &HeldLine
         requires { 1 ≤ p }
-        ensures { InForce self.now.lines result p }
-    {
-        // The first line is in force from the start.
-        self.lines[1..].partition_point(|x| x.line.date <= p)
-    }
-
-    // The place of the line in force in a later period: mostly it is the same line, and then nothing is searched.
-    #[inline]
-    fn later_in_force(&self, made: usize, p: u32) -> usize
-        requires within { made < length self.now.lines }
-        requires begun { (slice_index_or self.now.lines made empty_line).date ≤ p }
-        requires counted { 1 ≤ p }
-        ensures { InForce self.now.lines result p }
-    {
-        match self.lines.get(made + 1) {
-            Some(next) if next.line.date <= p => self.in_force(p),
-            _ => made,
-        }
-    }
-
-    // The line at a place, with what is kept with it.
-    #[inline]
-    fn at(&self, k: usize, p: u32) -> &HeldLine
-        requires { InForce self.now.lines k p }
         ensures begun { result.now.line.date ≤ p }
         ensures line { result.now.line ≡ line_at self.now.lines p }
         ensures held { result.now.held + result.now.line.holding * (p - result.now.line.date) ≡ holding_before self.now.lines p }
     {
-        &self.lines[k]
+        // The first line is in force from the start.
+        let later = self.lines[1..].partition_point(|x| x.line.date <= p);
+        &self.lines[later]
     }
 }
 
@@ -108,16 +89,15 @@ impl CostModel for DatedCosts {
         if j == 0 {
             return None;
         }
-        Some(self.at(self.in_force(j), j).line.setup)
+        Some(self.in_force(j).line.setup)
     }
 
     fn price(&self, j: u32, i: u32) -> Option<u64> {
         if no_price(j, i) {
             return None;
         }
-        let place = self.in_force(j);
-        let made = self.at(place, j);
-        let used = self.at(self.later_in_force(place, i), i);
+        let made = self.in_force(j);
+        let used = self.in_force(i);
         let held = used.held_before(i) - made.held_before(j);
         Some(made.line.unit + held)
     }
